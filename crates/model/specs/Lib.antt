@@ -1,0 +1,6 @@
+pub mod Tree
+pub mod Encode
+pub mod Read
+pub mod Places
+pub mod Laws
+pub mod Steps

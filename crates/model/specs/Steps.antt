@@ -1,0 +1,40 @@
+-- How an answer of the code and the bytes then left tell an outcome of reading.
+use Prim.Native.Nat.{ℕ}
+use mathlib.Core.Path.{_≡_}
+use mathlib.Core.List.{List}
+use denote.Ref.{RefT, now}
+use Rattle.std.specs.declared.result.Result.{Result}
+use Rattle.std.specs.declared.result.Result.the-variants.{Ok, Err}
+use Rattle.model.specs.declared.fault.Layout.{Layout}
+use Rattle.model.specs.declared.expression.Expression.{Expression}
+use Rattle.model.specs.declared.expression.Expression.the-variants.{None, False, True, Int, Float, Str, Ellipsis, Name, Attribute, BinOp, Tuple, List as ListOf, Subscript}
+use Rattle.model.specs.Tree.{Text, pyNone, pyFalse, pyTrue, int, float, str, ellipsis}
+use Rattle.model.specs.Read.{Out, read, fault, Head, constantHead, nameHead, attrHead, binopHead, tupleHead, listHead, subscriptHead}
+
+abbrev pub asIs : ℕ → ℕ
+asIs k = k
+
+-- the code's value, seen through f, was read, and these bytes are left; or the fault is at its place
+abbrev pub Steps : {T A : Type 0} → (T → A) → List ℕ → Result T Layout → Out A → Type 0
+Steps f rest (Ok v) o = o ≡ read (f v) rest
+Steps f rest (Err e) o = o ≡ fault (e .place)
+
+-- the same of a text that is a part of the model
+abbrev pub Takes : List ℕ → Result (RefT (List ℕ)) Layout → Out Text → Type 0
+Takes rest (Ok s) o = o ≡ read (s .now) rest
+Takes rest (Err e) o = o ≡ fault (e .place)
+
+abbrev pub headOf : Expression → Head
+headOf None = constantHead pyNone
+headOf False = constantHead pyFalse
+headOf True = constantHead pyTrue
+headOf (Int s) = constantHead (int (s .now))
+headOf (Float s) = constantHead (float (s .now))
+headOf (Str s) = constantHead (str (s .now))
+headOf Ellipsis = constantHead ellipsis
+headOf (Name s) = nameHead (s .now)
+headOf Attribute = attrHead
+headOf BinOp = binopHead
+headOf (Tuple k) = tupleHead k
+headOf (ListOf k) = listHead k
+headOf Subscript = subscriptHead

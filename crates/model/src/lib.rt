@@ -1,0 +1,7 @@
+// The packed format of a model: its cursor, its reader, and the laws of the format.
+mod cursor;
+mod expression;
+mod fault;
+
+pub use expression::Expression;
+pub use fault::Layout;
