@@ -4,3 +4,5 @@ pub mod Read
 pub mod Places
 pub mod Laws
 pub mod Steps
+pub mod Rules
+pub mod Audit

@@ -38,3 +38,8 @@ headOf BinOp = binopHead
 headOf (Tuple k) = tupleHead k
 headOf (ListOf k) = listHead k
 headOf Subscript = subscriptHead
+
+-- a pass that gathers as it reads went on to f, and these bytes are left; or the fault is at its place
+abbrev pub Goes : {T S : Type 0} → List ℕ → S → Result T Layout → Out S → Type 0
+Goes rest f (Ok v) o = o ≡ read f rest
+Goes rest f (Err e) o = o ≡ fault (e .place)

@@ -2,6 +2,9 @@
 mod cursor;
 mod expression;
 mod fault;
+mod findings;
+mod reader;
 
 pub use expression::Expression;
 pub use fault::Layout;
+pub use findings::Findings;

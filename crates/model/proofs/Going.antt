@@ -1,0 +1,55 @@
+-- How a pass that gathers as it reads goes on: the exit of a `?`, one step into an expression or a class, and a loop over items.
+use Prim.Native.Nat.{ℕ, zero, suc, _+_, _-_, _<_}
+use native.Mathlib.Omega.{arith}
+use mathlib.Core.Path.{_≡_, refl, ap, sym, subst, _∙_}
+use mathlib.Core.List.{List}
+use Rattle.std.specs.declared.result.Result.{Result}
+use Rattle.std.specs.declared.result.Result.the-variants.{Ok, Err}
+use Rattle.std.specs.Results.{ErrBy}
+use Rattle.std.proofs.shelf.Results.{err-from-errBy}
+use Rattle.model.specs.declared.fault.Layout.{Layout}
+use Rattle.model.specs.declared.findings.Findings.{Findings}
+use Rattle.model.specs.Read.{Out, read, fault, bind, place, Head, head}
+use Rattle.model.specs.Steps.{Goes}
+use Rattle.model.specs.Audit.{noteHead, auditParts, auditExpr, laps, auditClassOver, auditClass}
+
+pub goes-by : {T S : Type 0} (rest : List ℕ) (f : S) (r : Result T Layout) (o q : Out S) → q ≡ o → Goes rest f r o → Goes rest f r q
+goes-by rest f r o q e g = subst (λ (x : Out _). Goes rest f r x) (sym e) g
+
+-- the exit of a `?`
+pub exits : {T S : Type 0} (rest : List ℕ) (f : S) (r : Result T Layout) (e : Layout) (o : Out S) → ErrBy r (λ y. y ≡ e) → o ≡ fault (e .place) → Goes rest f r o
+exits rest f r e o b h = let p = err-from-errBy r b in rw (p .1, p .2) h
+
+pub expr-at-zero : (n d p : ℕ) (bs : List ℕ) (f : Findings) → d ≡ 0 → p ≡ place n bs → auditExpr n d bs f ≡ fault p
+unfolding auditExpr
+expr-at-zero n zero p bs f z e = rw e refl
+expr-at-zero n (suc d) p bs f z e = absurd (omega arith)
+
+-- one step into an expression
+abbrev pub onHead : ℕ → ℕ → List ℕ → Findings → Head → List ℕ → Out Findings
+onHead n d bs f h r = auditParts n (auditExpr n d) (place n bs) h r (noteHead (place n bs) h f)
+
+pub expr-opened : (n d : ℕ) (bs : List ℕ) (f : Findings) → (d ≡ 0 → ⊥) → auditExpr n d bs f ≡ bind (head n bs) (onHead n (d - 1) bs f)
+unfolding auditExpr
+expr-opened n zero bs f h = absurd (h refl)
+expr-opened n (suc d) bs f h = let e : suc d - 1 ≡ d = omega arith in rw e refl
+
+pub expr-fault : (n d p : ℕ) (bs : List ℕ) (f : Findings) → (d ≡ 0 → ⊥) → head n bs ≡ fault p → auditExpr n d bs f ≡ fault p
+expr-fault n d p bs f h e =
+    expr-opened n d bs f h ∙ ap (λ (o : Out Head). bind o (onHead n (d - 1) bs f)) e
+
+pub expr-inside : (n d p : ℕ) (bs : List ℕ) (f : Findings) (h : Head) (s t : List ℕ) (g : Findings) → (d ≡ 0 → ⊥) → p ≡ place n bs → head n bs ≡ read h s → g ≡ noteHead p h f → t ≡ s → auditExpr n d bs f ≡ auditParts n (auditExpr n (d - 1)) p h t g
+expr-inside n d p bs f h s t g z pe he ge te =
+    expr-opened n d bs f z ∙ ap (λ (o : Out Head). bind o (onHead n (d - 1) bs f)) he ∙ rw (ge, pe, te) refl
+
+-- a loop over k items
+pub laps-more : {S : Type 0} (one : List ℕ → S → Out S) (n i : ℕ) (bs : List ℕ) (f : S) → i < n → laps one (n - i) bs f ≡ bind (one bs f) (λ g r. laps one (n - (i + 1)) r g)
+laps-more one n i bs f h =
+    let e : n - i ≡ suc (n - (i + 1)) = omega arith in
+    rw e refl
+
+pub laps-read : {S : Type 0} (one : List ℕ → S → Out S) (n i : ℕ) (bs r : List ℕ) (f g : S) (all : Out S) → i < n → all ≡ laps one (n - i) bs f → one bs f ≡ read g r → all ≡ laps one (n - (i + 1)) r g
+laps-read one n i bs r f g all h a e = a ∙ laps-more one n i bs f h ∙ ap (λ (o : Out _). bind o (λ g r. laps one (n - (i + 1)) r g)) e
+
+pub laps-fault : {S : Type 0} (one : List ℕ → S → Out S) (n i p : ℕ) (bs : List ℕ) (f : S) (all : Out S) → i < n → all ≡ laps one (n - i) bs f → one bs f ≡ fault p → all ≡ fault p
+laps-fault one n i p bs f all h a e = a ∙ laps-more one n i bs f h ∙ ap (λ (o : Out _). bind o (λ g r. laps one (n - (i + 1)) r g)) e

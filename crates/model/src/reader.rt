@@ -1,0 +1,92 @@
+// The reader of what a module declares: one pass over the packed bytes that checks the layout and notes what it finds
+// against the rules. Depth is tested before the first byte of an expression or a class.
+ghost use mathlib.Core.Path.{_≡_};
+ghost use Prim.Native.Nat.{_<_};
+ghost use Rattle.model.specs.Read.{bit as bitOf};
+ghost use Rattle.model.specs.Steps.{Goes, headOf};
+ghost use Rattle.model.specs.Audit.{noteHead, auditAny, auditParts, auditExpr, laps, auditName, auditPair, auditAttribute, auditArgument, auditStar, auditExprs, auditArguments, auditParameters, auditFunction, auditFunctions, auditAttributes, auditMembers, auditClass, auditClasses, auditOwn};
+use crate::cursor::Cursor;
+use crate::expression::Expression;
+use crate::fault::Layout;
+use crate::findings::Findings;
+
+pub(crate) struct Reader<'a> {
+    pub(crate) at: Cursor<'a>,
+    pub(crate) found: Findings,
+}
+
+// Whether the bit of this value stands in a map.
+pub(crate) fn stands(map: u16, bit: u16) -> bool
+    requires { ⌜ 0 < bit ⌝ }
+    ensures { λ r. ⌜ r ≡ bitOf map bit ⌝ }
+{
+    map / bit % 2 == 1
+}
+
+impl<'a> Reader<'a> {
+    // What the head of an expression shows against the rules.
+    fn judge(&mut self, place: usize, head: Expression<'a>)
+        ensures found { λ _. ⌜ now (self .exit) .found ≡ noteHead place (headOf (head .entry)) (now (self .entry) .found) ⌝ }
+        ensures rest { λ _. ⌜ now (self .exit) .at .rest .now ≡ now (self .entry) .at .rest .now ⌝ }
+    {
+        match head {
+            Expression::Int(s) => self.found.value(place, text::is_int(s)),
+            Expression::Float(s) => self.found.value(place, text::is_float(s)),
+            Expression::Str(s) => self.found.value(place, text::is_utf8(s)),
+            Expression::Name(s) => self.found.name(place, text::is_dotted_name(s)),
+            _ => {}
+        }
+    }
+
+    fn expression(&mut self, end: usize, depth: u8) -> Result<(), Layout>
+        ensures { λ r. ⌜ Goes (now (self .exit) .at .rest .now) (now (self .exit) .found) r (auditExpr end depth (now (self .entry) .at .rest .now) (now (self .entry) .found)) ⌝ }
+    {
+        let place = self.at.place(end);
+        if depth == 0 {
+            return Err(Layout { place });
+        }
+        let head = self.at.next(end)?;
+        self.judge(place, head);
+        self.inside(end, place, head, depth - 1)
+    }
+
+    // The parts of an expression that begins by this head.
+    fn inside(&mut self, end: usize, place: usize, head: Expression<'a>, depth: u8) -> Result<(), Layout>
+        ensures { λ r. ⌜ Goes (now (self .exit) .at .rest .now) (now (self .exit) .found) r (auditParts end (auditExpr end depth) place (headOf (head .entry)) (now (self .entry) .at .rest .now) (now (self .entry) .found)) ⌝ }
+    {
+        match head {
+            Expression::Attribute => {
+                self.expression(end, depth)?;
+                let name = self.at.text(end)?;
+                self.found.name(place, text::is_dotted_name(name));
+                Ok(())
+            }
+            Expression::BinOp | Expression::Subscript => {
+                self.expression(end, depth)?;
+                self.expression(end, depth)
+            }
+            Expression::Tuple(n) => self.list(end, n, depth),
+            Expression::List(n) => self.list(end, n, depth),
+            _ => Ok(()),
+        }
+    }
+
+    // The next n expressions.
+    fn list(&mut self, end: usize, n: u16, depth: u8) -> Result<(), Layout>
+        ensures { λ r. ⌜ Goes (now (self .exit) .at .rest .now) (now (self .exit) .found) r (laps (auditExpr end depth) n (now (self .entry) .at .rest .now) (now (self .entry) .found)) ⌝ }
+    {
+        for _ in 0..n {
+            self.expression(end, depth)?;
+        }
+        Ok(())
+    }
+
+    fn optional(&mut self, end: usize, stands: bool, depth: u8) -> Result<(), Layout>
+        ensures { λ r. ⌜ Goes (now (self .exit) .at .rest .now) (now (self .exit) .found) r (auditAny (auditExpr end depth) stands (now (self .entry) .at .rest .now) (now (self .entry) .found)) ⌝ }
+    {
+        if stands {
+            return self.expression(end, depth);
+        }
+        Ok(())
+    }
+}
