@@ -3,15 +3,16 @@ use Prim.Native.Nat.{ℕ, zero, suc, _+_, _-_, _<_}
 use native.Mathlib.Omega.{arith}
 use mathlib.Core.Path.{_≡_, refl, ap, sym, subst, _∙_}
 use mathlib.Core.List.{List}
+use mathlib.Core.Bool.{Bool, true}
 use Rattle.std.specs.declared.result.Result.{Result}
 use Rattle.std.specs.declared.result.Result.the-variants.{Ok, Err}
 use Rattle.std.specs.Results.{ErrBy}
 use Rattle.std.proofs.shelf.Results.{err-from-errBy}
 use Rattle.model.specs.declared.fault.Layout.{Layout}
 use Rattle.model.specs.declared.findings.Findings.{Findings}
-use Rattle.model.specs.Read.{Out, read, fault, bind, place, Head, head}
+use Rattle.model.specs.Read.{Out, read, fault, bind, place, count, Head, head}
 use Rattle.model.specs.Steps.{Goes}
-use Rattle.model.specs.Audit.{noteHead, auditParts, auditExpr, laps, auditClassOver, auditClass}
+use Rattle.model.specs.Audit.{noteHead, auditParts, auditExpr, laps, auditList, auditClassOver, auditClass}
 
 pub goes-by : {T S : Type 0} (rest : List ℕ) (f : S) (r : Result T Layout) (o q : Out S) → q ≡ o → Goes rest f r o → Goes rest f r q
 goes-by rest f r o q e g = subst (λ (x : Out _). Goes rest f r x) (sym e) g
@@ -53,3 +54,8 @@ laps-read one n i bs r f g all h a e = a ∙ laps-more one n i bs f h ∙ ap (λ
 
 pub laps-fault : {S : Type 0} (one : List ℕ → S → Out S) (n i p : ℕ) (bs : List ℕ) (f : S) (all : Out S) → i < n → all ≡ laps one (n - i) bs f → one bs f ≡ fault p → all ≡ fault p
 laps-fault one n i p bs f all h a e = a ∙ laps-more one n i bs f h ∙ ap (λ (o : Out _). bind o (λ g r. laps one (n - (i + 1)) r g)) e
+
+-- a list field that stands
+pub listed-by : {S : Type 0} (n : ℕ) (one : List ℕ → S → Out S) (stands : Bool) (bs r : List ℕ) (f : S) (k : ℕ) (o : Out S) → stands ≡ true → count n bs ≡ read k r → laps one k r f ≡ o → auditList n one stands bs f ≡ o
+listed-by n one stands bs r f k o s e l =
+    ap (λ (b : Bool). auditList n one b bs f) s ∙ ap (λ (q : Out ℕ). bind q (λ k r. laps one k r f)) e ∙ l

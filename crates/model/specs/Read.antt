@@ -122,7 +122,7 @@ argument n d bs =
 
 -- bit 0 has no name in the map of a vararg or kwarg
 abbrev pub starFields : ℕ → List ℕ → Out ℕ
-starFields n bs = bind (fields n 4 bs) (λ m r. cond (bit m 1) (fault (place n bs)) (read m r))
+starFields n bs = bind (fields n 4 bs) (λ m r. cond (eqb (m % 2) 1) (fault (place n bs)) (read m r))
 
 abbrev pub star : ℕ → ℕ → List ℕ → Out Star
 star n d bs =

@@ -1,7 +1,7 @@
 // A cursor over the packed bytes, which steps through numbers, texts and tags. It keeps only what is left; `end` is the
 // model's length throughout, from which a place is told, and at which a fault shows where the bytes run out.
 ghost use mathlib.Core.Path.{_≡_};
-ghost use Rattle.model.specs.Read.{place as placeOf, byte as byteAt, number as numberAt, text as textAt, fields as fieldsAt, count as countAt, head as headAt};
+ghost use Rattle.model.specs.Read.{place as placeOf, byte as byteAt, number as numberAt, text as textAt, fields as fieldsAt, starFields as starFieldsAt, count as countAt, head as headAt};
 ghost use Rattle.model.specs.Steps.{Steps, Takes, asIs, headOf};
 use crate::expression::Expression;
 use crate::fault::Layout;
@@ -60,6 +60,15 @@ impl<'a> Cursor<'a> {
         let place = self.place(end);
         let map = self.number(end)?;
         if map < limit { Ok(map) } else { Err(Layout { place }) }
+    }
+
+    // The map of a vararg or kwarg, in which bit 0 has no name.
+    pub(crate) fn star_fields(&mut self, end: usize) -> Result<u16, Layout>
+        ensures { λ r. ⌜ Steps asIs (now (self .exit) .rest .now) r (starFieldsAt end (now (self .entry) .rest .now)) ⌝ }
+    {
+        let place = self.place(end);
+        let map = self.fields(end, 4)?;
+        if map % 2 == 1 { Err(Layout { place }) } else { Ok(map) }
     }
 
     // The count of a list field that stands: at least one.

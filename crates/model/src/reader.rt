@@ -89,4 +89,80 @@ impl<'a> Reader<'a> {
         }
         Ok(())
     }
+
+    // A list field of expressions, where it stands.
+    fn expressions(&mut self, end: usize, stands: bool, depth: u8) -> Result<(), Layout>
+        ensures { λ r. ⌜ Goes (now (self .exit) .at .rest .now) (now (self .exit) .found) r (auditExprs end depth stands (now (self .entry) .at .rest .now) (now (self .entry) .found)) ⌝ }
+    {
+        if !stands {
+            return Ok(());
+        }
+        let n = self.at.count(end)?;
+        self.list(end, n, depth)
+    }
+
+    // The name of the record at this place.
+    fn name(&mut self, end: usize, place: usize) -> Result<(), Layout>
+        ensures { λ r. ⌜ Goes (now (self .exit) .at .rest .now) (now (self .exit) .found) r (auditName end place (now (self .entry) .at .rest .now) (now (self .entry) .found)) ⌝ }
+    {
+        let name = self.at.text(end)?;
+        self.found.name(place, text::is_identifier(name));
+        Ok(())
+    }
+
+    // The value and the annotation of an attribute, or the default and the annotation of an argument.
+    fn pair(&mut self, end: usize, map: u16, depth: u8) -> Result<(), Layout>
+        ensures { λ r. ⌜ Goes (now (self .exit) .at .rest .now) (now (self .exit) .found) r (auditPair end depth map (now (self .entry) .at .rest .now) (now (self .entry) .found)) ⌝ }
+    {
+        self.optional(end, stands(map, 1), depth)?;
+        self.optional(end, stands(map, 2), depth)
+    }
+
+    // An attribute; one whose map has no bit has neither a value nor an annotation.
+    fn attribute(&mut self, end: usize, depth: u8) -> Result<(), Layout>
+        ensures { λ r. ⌜ Goes (now (self .exit) .at .rest .now) (now (self .exit) .found) r (auditAttribute end depth (now (self .entry) .at .rest .now) (now (self .entry) .found)) ⌝ }
+    {
+        let place = self.at.place(end);
+        let map = self.at.fields(end, 4)?;
+        self.name(end, place)?;
+        self.found.attribute(place, map != 0);
+        self.pair(end, map, depth)
+    }
+
+    // An argument before or behind the star.
+    fn argument(&mut self, end: usize, depth: u8) -> Result<(), Layout>
+        ensures { λ r. ⌜ Goes (now (self .exit) .at .rest .now) (now (self .exit) .found) r (auditArgument end depth (now (self .entry) .at .rest .now) (now (self .entry) .found)) ⌝ }
+    {
+        let place = self.at.place(end);
+        let map = self.at.fields(end, 4)?;
+        self.name(end, place)?;
+        self.pair(end, map, depth)
+    }
+
+    // A vararg or kwarg, where it stands: it has no default.
+    fn star(&mut self, end: usize, stands_there: bool, depth: u8) -> Result<(), Layout>
+        ensures { λ r. ⌜ Goes (now (self .exit) .at .rest .now) (now (self .exit) .found) r (auditAny (auditStar end depth) «stands_there» (now (self .entry) .at .rest .now) (now (self .entry) .found)) ⌝ }
+    {
+        if !stands_there {
+            return Ok(());
+        }
+        let place = self.at.place(end);
+        let map = self.at.star_fields(end)?;
+        self.name(end, place)?;
+        self.optional(end, stands(map, 2), depth)
+    }
+
+    // A list field of arguments, where it stands.
+    fn arguments(&mut self, end: usize, stands: bool, depth: u8) -> Result<(), Layout>
+        ensures { λ r. ⌜ Goes (now (self .exit) .at .rest .now) (now (self .exit) .found) r (auditArguments end depth stands (now (self .entry) .at .rest .now) (now (self .entry) .found)) ⌝ }
+    {
+        if !stands {
+            return Ok(());
+        }
+        let n = self.at.count(end)?;
+        for _ in 0..n {
+            self.argument(end, depth)?;
+        }
+        Ok(())
+    }
 }
