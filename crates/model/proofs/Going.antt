@@ -43,6 +43,16 @@ pub expr-inside : (n d p : ℕ) (bs : List ℕ) (f : Findings) (h : Head) (s t :
 expr-inside n d p bs f h s t g z pe he ge te =
     expr-opened n d bs f z ∙ ap (λ (o : Out Head). bind o (onHead n (d - 1) bs f)) he ∙ rw (ge, pe, te) refl
 
+pub class-at-zero : (n d p : ℕ) (bs : List ℕ) (f : Findings) → d ≡ 0 → p ≡ place n bs → auditClass n d bs f ≡ fault p
+unfolding auditClass
+class-at-zero n zero p bs f z e = rw e refl
+class-at-zero n (suc d) p bs f z e = absurd (omega arith)
+
+pub class-opened : (n d : ℕ) (bs : List ℕ) (f : Findings) → (d ≡ 0 → ⊥) → auditClass n d bs f ≡ auditClassOver n (d - 1) (auditClass n (d - 1)) bs f
+unfolding auditClass
+class-opened n zero bs f h = absurd (h refl)
+class-opened n (suc d) bs f h = let e : suc d - 1 ≡ d = omega arith in rw e refl
+
 -- a loop over k items
 pub laps-more : {S : Type 0} (one : List ℕ → S → Out S) (n i : ℕ) (bs : List ℕ) (f : S) → i < n → laps one (n - i) bs f ≡ bind (one bs f) (λ g r. laps one (n - (i + 1)) r g)
 laps-more one n i bs f h =

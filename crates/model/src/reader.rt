@@ -4,7 +4,7 @@ ghost use mathlib.Core.Path.{_≡_};
 ghost use Prim.Native.Nat.{_<_};
 ghost use Rattle.model.specs.Read.{bit as bitOf};
 ghost use Rattle.model.specs.Steps.{Goes, headOf};
-ghost use Rattle.model.specs.Audit.{noteHead, auditAny, auditParts, auditExpr, laps, auditName, auditPair, auditAttribute, auditArgument, auditStar, auditExprs, auditArguments, auditParameters, auditFunction, auditFunctions, auditAttributes, auditMembers, auditClass, auditClasses, auditOwn};
+ghost use Rattle.model.specs.Audit.{noteHead, auditAny, auditParts, auditExpr, laps, auditName, auditPair, auditAttribute, auditArgument, auditStar, auditExprs, auditArguments, auditParameters, auditFunction, auditFunctions, auditAttributes, auditMembers, auditClassOver, auditClass, auditClasses, auditOwn};
 use crate::cursor::Cursor;
 use crate::expression::Expression;
 use crate::fault::Layout;
@@ -164,5 +164,111 @@ impl<'a> Reader<'a> {
             self.argument(end, depth)?;
         }
         Ok(())
+    }
+
+    // A function's parameters and what it returns.
+    fn parameters(&mut self, end: usize, map: u16, depth: u8) -> Result<(), Layout>
+        ensures { λ r. ⌜ Goes (now (self .exit) .at .rest .now) (now (self .exit) .found) r (auditParameters end depth map (now (self .entry) .at .rest .now) (now (self .entry) .found)) ⌝ }
+    {
+        self.arguments(end, stands(map, 2), depth)?;
+        self.arguments(end, stands(map, 4), depth)?;
+        self.star(end, stands(map, 8), depth)?;
+        self.arguments(end, stands(map, 16), depth)?;
+        self.star(end, stands(map, 32), depth)?;
+        self.optional(end, stands(map, 64), depth)
+    }
+
+    // A function or a method.
+    fn function(&mut self, end: usize, depth: u8) -> Result<(), Layout>
+        ensures { λ r. ⌜ Goes (now (self .exit) .at .rest .now) (now (self .exit) .found) r (auditFunction end depth (now (self .entry) .at .rest .now) (now (self .entry) .found)) ⌝ }
+    {
+        let place = self.at.place(end);
+        let map = self.at.fields(end, 128)?;
+        self.name(end, place)?;
+        self.expressions(end, stands(map, 1), depth)?;
+        self.parameters(end, map, depth)
+    }
+
+    // A list field of functions, where it stands.
+    fn functions(&mut self, end: usize, stands: bool, depth: u8) -> Result<(), Layout>
+        ensures { λ r. ⌜ Goes (now (self .exit) .at .rest .now) (now (self .exit) .found) r (auditFunctions end depth stands (now (self .entry) .at .rest .now) (now (self .entry) .found)) ⌝ }
+    {
+        if !stands {
+            return Ok(());
+        }
+        let n = self.at.count(end)?;
+        for _ in 0..n {
+            self.function(end, depth)?;
+        }
+        Ok(())
+    }
+
+    // A list field of attributes, where it stands.
+    fn attributes(&mut self, end: usize, stands: bool, depth: u8) -> Result<(), Layout>
+        ensures { λ r. ⌜ Goes (now (self .exit) .at .rest .now) (now (self .exit) .found) r (auditAttributes end depth stands (now (self .entry) .at .rest .now) (now (self .entry) .found)) ⌝ }
+    {
+        if !stands {
+            return Ok(());
+        }
+        let n = self.at.count(end)?;
+        for _ in 0..n {
+            self.attribute(end, depth)?;
+        }
+        Ok(())
+    }
+
+    // What a class holds but its inner classes.
+    fn members(&mut self, end: usize, map: u16, depth: u8) -> Result<(), Layout>
+        ensures { λ r. ⌜ Goes (now (self .exit) .at .rest .now) (now (self .exit) .found) r (auditMembers end depth map (now (self .entry) .at .rest .now) (now (self .entry) .found)) ⌝ }
+    {
+        self.expressions(end, stands(map, 1), depth)?;
+        self.functions(end, stands(map, 2), depth)?;
+        self.attributes(end, stands(map, 4), depth)?;
+        self.expressions(end, stands(map, 8), depth)
+    }
+
+    // A class.
+    fn class(&mut self, end: usize, depth: u8) -> Result<(), Layout>
+        ensures { λ r. ⌜ Goes (now (self .exit) .at .rest .now) (now (self .exit) .found) r (auditClass end depth (now (self .entry) .at .rest .now) (now (self .entry) .found)) ⌝ }
+    {
+        if depth == 0 {
+            let place = self.at.place(end);
+            return Err(Layout { place });
+        }
+        self.class_record(end, depth - 1)
+    }
+
+    // A class whose parts may go this deep.
+    fn class_record(&mut self, end: usize, depth: u8) -> Result<(), Layout>
+        ensures { λ r. ⌜ Goes (now (self .exit) .at .rest .now) (now (self .exit) .found) r (auditClassOver end depth (auditClass end depth) (now (self .entry) .at .rest .now) (now (self .entry) .found)) ⌝ }
+    {
+        let place = self.at.place(end);
+        let map = self.at.fields(end, 32)?;
+        self.name(end, place)?;
+        self.members(end, map, depth)?;
+        self.classes(end, stands(map, 16), depth)
+    }
+
+    // A list field of classes, where it stands.
+    fn classes(&mut self, end: usize, stands: bool, depth: u8) -> Result<(), Layout>
+        ensures { λ r. ⌜ Goes (now (self .exit) .at .rest .now) (now (self .exit) .found) r (auditClasses end depth stands (now (self .entry) .at .rest .now) (now (self .entry) .found)) ⌝ }
+    {
+        if !stands {
+            return Ok(());
+        }
+        let n = self.at.count(end)?;
+        for _ in 0..n {
+            self.class(end, depth)?;
+        }
+        Ok(())
+    }
+
+    // A module's own declarations.
+    pub(crate) fn own(&mut self, end: usize, map: u16, depth: u8) -> Result<(), Layout>
+        ensures { λ r. ⌜ Goes (now (self .exit) .at .rest .now) (now (self .exit) .found) r (auditOwn end depth map (now (self .entry) .at .rest .now) (now (self .entry) .found)) ⌝ }
+    {
+        self.classes(end, stands(map, 2), depth)?;
+        self.functions(end, stands(map, 4), depth)?;
+        self.attributes(end, stands(map, 8), depth)
     }
 }
