@@ -3,14 +3,17 @@
 use Prim.Native.Nat.{ℕ, zero, suc, _+_, _-_, _/_, _%_, min}
 use mathlib.Core.Bool.{Bool, true, false, not, cond}
 use mathlib.Core.List.{List, [], _∷_, _++_}
+use lib.ListN.{length, set}
 use lib.Dec.{eqb, leb, ltb}
 use Rattle.std.specs.declared.option.Option.{Option}
 use Rattle.std.specs.declared.option.Option.the-variants.{Some, None}
 use Rattle.text.specs.Names.{identifier, dotted}
 use Rattle.model.specs.declared.findings.Findings.{Findings}
 use Rattle.model.specs.Tree.{Text, Constant}
-use Rattle.model.specs.Read.{Out, read, fault, bind, place, number, text, fields, starFields, count, bit, Head, head, constantHead, nameHead, attrHead, binopHead, tupleHead, listHead, subscriptHead}
+use Rattle.model.specs.Read.{Out, read, fault, bind, place, byte, number, text, fields, starFields, count, bit, deepestAllowed, Head, head, constantHead, nameHead, attrHead, binopHead, tupleHead, listHead, subscriptHead}
 use Rattle.model.specs.Rules.{wellFormed}
+use Rattle.model.specs.declared.files.File.{File}
+use Rattle.model.specs.Files.{file, Held, held}
 
 abbrev pub earlier : Option ℕ → ℕ → Option ℕ
 earlier None p = Some p
@@ -126,3 +129,42 @@ auditClasses n d = auditList n (auditClass n d)
 abbrev pub auditOwn : ℕ → ℕ → ℕ → List ℕ → Findings → Out Findings
 auditOwn n d m bs f =
     bind (auditClasses n d (bit m 2) bs f) λ g r. bind (auditFunctions n d (bit m 4) r g) λ h s. auditAttributes n d (bit m 8) s h
+
+-- what a pass over modules gathers: the findings, the files so far, and by whom each module is held
+pub record Gathered : Type 0 where
+  pub found : Findings
+  pub files : List File
+  pub siblings : List Held
+
+-- a module opens: its name is judged, and it is listed, its own declarations still to be found
+abbrev pub opened : ℕ → Option ℕ → Text → Gathered → Gathered
+opened p h s g =
+    record { found = noteName p (identifier s) (g .found); files = g .files ++ file p h 0 ∷ []; siblings = g .siblings ++ held p h s ∷ [] }
+
+-- a module's own declarations; its file, number k, learns where they start
+abbrev pub auditRest : ℕ → ℕ → ℕ → ℕ → (ℕ → File) → List ℕ → Gathered → Out Gathered
+auditRest n d m k made bs g =
+    bind (auditOwn n d m bs (g .found)) λ f r. read (record { found = f; files = set (g .files) k (made (place n bs)); siblings = g .siblings }) r
+
+-- a module whose submodules `one` reads, by the number of the file that holds them; what it holds may go d deep
+abbrev pub auditModuleOver : ℕ → ℕ → (Option ℕ → List ℕ → Gathered → Out Gathered) → Option ℕ → List ℕ → Gathered → Out Gathered
+auditModuleOver n d one h bs g =
+    bind (fields n 16 bs) λ m r. bind (text n r) λ s t. bind (auditList n (one (Some (length (g .files)))) (bit m 1) t (opened (place n bs) h s g)) λ e u. auditRest n d m (length (g .files)) (file (place n bs) h) u e
+
+unfoldable pub auditModule : ℕ → ℕ → Option ℕ → List ℕ → Gathered → Out Gathered
+auditModule n zero h bs g = fault (place n bs)
+auditModule n (suc d) h bs g = auditModuleOver n d (auditModule n d) h bs g
+
+abbrev pub nothing : Gathered
+nothing = record { found = record { names = None; values = None; empty = None }; files = []; siblings = [] }
+
+-- no byte more
+abbrev pub auditEnd : ℕ → Gathered → List ℕ → Out Gathered
+auditEnd n g [] = read g []
+auditEnd n g (b ∷ bs) = fault (place n (b ∷ bs))
+
+abbrev pub auditVersion : ℕ → ℕ → ℕ → List ℕ → Out Gathered
+auditVersion n p v bs = cond (eqb v 1) (bind (auditModule n deepestAllowed None bs nothing) (auditEnd n)) (fault p)
+
+abbrev pub audit : List ℕ → Out Gathered
+audit bs = bind (byte (length bs) bs) (auditVersion (length bs) (place (length bs) bs))

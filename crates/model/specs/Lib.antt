@@ -5,4 +5,8 @@ pub mod Places
 pub mod Laws
 pub mod Steps
 pub mod Rules
+pub mod Files
 pub mod Audit
+pub mod Listed
+pub mod Uses
+pub mod Limits

@@ -173,10 +173,10 @@ ended n m (b ∷ bs) = fault (place n (b ∷ bs))
 abbrev pub deepestAllowed : ℕ
 deepestAllowed = 64
 
-abbrev pub versioned : ℕ → List ℕ → Out Module
-versioned n [] = fault n
-versioned n (v ∷ bs) = cond (eqb v 1) (bind (oneModule n deepestAllowed bs) (ended n)) (fault (place n (v ∷ bs)))
+-- the version byte, which is at p
+abbrev pub versioned : ℕ → ℕ → ℕ → List ℕ → Out Module
+versioned n p v bs = cond (eqb v 1) (bind (oneModule n deepestAllowed bs) (ended n)) (fault p)
 
 -- the model that these bytes are, or the place of the first fault
 abbrev pub model : List ℕ → Out Module
-model bs = versioned (length bs) bs
+model bs = bind (byte (length bs) bs) (versioned (length bs) (place (length bs) bs))

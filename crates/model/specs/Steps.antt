@@ -1,11 +1,19 @@
 -- How an answer of the code and the bytes then left tell an outcome of reading.
 use Prim.Native.Nat.{ℕ}
 use mathlib.Core.Path.{_≡_}
-use mathlib.Core.List.{List}
+use mathlib.Core.List.{List, map}
 use denote.Ref.{RefT, now}
 use Rattle.std.specs.declared.result.Result.{Result}
 use Rattle.std.specs.declared.result.Result.the-variants.{Ok, Err}
 use Rattle.model.specs.declared.fault.Layout.{Layout}
+use Rattle.model.specs.declared.fault.Fault.{Fault}
+use Rattle.model.specs.declared.fault.Fault.the-variants.{Broken, Memory}
+use Rattle.model.specs.declared.findings.Findings.{Findings}
+use Rattle.model.specs.declared.files.Sibling.{Sibling}
+use Rattle.model.specs.declared.files.Listing.{Listing}
+use Rattle.model.specs.Files.{Held, held}
+use Rattle.model.specs.Audit.{Gathered}
+use Rattle.std.specs.Of.Vec.{vec-items}
 use Rattle.model.specs.declared.expression.Expression.{Expression}
 use Rattle.model.specs.declared.expression.Expression.the-variants.{None, False, True, Int, Float, Str, Ellipsis, Name, Attribute, BinOp, Tuple, List as ListOf, Subscript}
 use Rattle.model.specs.Tree.{Text, pyNone, pyFalse, pyTrue, int, float, str, ellipsis}
@@ -43,3 +51,16 @@ headOf Subscript = subscriptHead
 abbrev pub Goes : {T S : Type 0} → List ℕ → S → Result T Layout → Out S → Type 0
 Goes rest f (Ok v) o = o ≡ read f rest
 Goes rest f (Err e) o = o ≡ fault (e .place)
+
+-- the same of a pass that may lack memory, of which it then says nothing
+abbrev pub Gathers : {T S : Type 0} → List ℕ → S → Result T Fault → Out S → Type 0
+Gathers rest f (Ok v) o = o ≡ read f rest
+Gathers rest f (Err (Broken e)) o = o ≡ fault (e .place)
+Gathers rest f (Err Memory) o = Unit {0}
+
+abbrev pub heldOf : Sibling → Held
+heldOf x = held (x .place) (x .holder) (x .name .now)
+
+-- what the code has gathered
+abbrev pub gathered : Findings → Listing → Gathered
+gathered found list = record { found = found; files = vec-items (list .files); siblings = map heldOf (vec-items (list .siblings)) }

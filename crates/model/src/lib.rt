@@ -2,9 +2,15 @@
 mod cursor;
 mod expression;
 mod fault;
+mod files;
 mod findings;
+
 mod reader;
 
 pub use expression::Expression;
+pub use fault::Fault;
 pub use fault::Layout;
+pub use files::File;
+pub use files::Listing;
+pub use files::Sibling;
 pub use findings::Findings;

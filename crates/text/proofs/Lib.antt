@@ -1,0 +1,4 @@
+mod Steps
+pub mod NamesDecided
+pub mod NumbersDecided
+pub mod Utf8Decided
