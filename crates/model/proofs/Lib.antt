@@ -1,2 +1,14 @@
 pub mod Cuts
 pub mod Going
+pub mod Exact
+pub mod Numbers
+pub mod Rows
+pub mod Parts
+pub mod Exprs
+pub mod Records
+pub mod Classes
+pub mod Models
+pub mod Stable
+pub mod Continued
+pub mod Formats
+pub mod Timely

@@ -1,7 +1,7 @@
 -- What reading means, in terms of writing.
-use Prim.Native.Nat.{ℕ, _≤_, _<_}
+use Prim.Native.Nat.{ℕ, _-_, _≤_, _<_}
 use mathlib.Core.Path.{_≡_}
-use mathlib.Core.Logic.{_↔_}
+use mathlib.Core.Logic.{_↔_, _⊎_}
 use mathlib.Core.List.{List, [], _∷_, _++_}
 use lib.ListN.{length, take}
 use Rattle.std.specs.shelf.Lists.{All}
@@ -21,13 +21,15 @@ Describes bs m = (bs ≡ encode m) × ((moduleDepth m ≤ 64) × moduleAt m 1)
 abbrev pub ReadsExactly : Type 0
 ReadsExactly = (bs : List ℕ) → Bytes bs → (m : Module) → (model bs ≡ read m []) ↔ Describes bs m
 
--- A fault shows no later than it must: what stands before its place can be continued to the encoding of a tree,
--- of whatever depth.
+-- these bytes begin the encoding of some tree, of whatever depth
 abbrev pub Continuable : List ℕ → Type 0
 Continuable bs = (m : Module) × ((more : List ℕ) × (bs ++ more ≡ encode m))
 
+-- A fault shows no later than it must: what stands before its place begins the encoding of a tree. Only where the bytes
+-- ran out inside a number of two bytes may its first byte have spoilt that already, since such a number is judged whole.
 abbrev pub FaultsInTime : Type 0
-FaultsInTime = (bs : List ℕ) → Bytes bs → (p : ℕ) → model bs ≡ fault p → (p ≤ length bs) × Continuable (take p bs)
+FaultsInTime =
+    (bs : List ℕ) → Bytes bs → (p : ℕ) → model bs ≡ fault p → (p ≤ length bs) × (Continuable (take p bs) ⊎ ((p ≡ length bs) × Continuable (take (p - 1) bs)))
 
 -- A fault inside the bytes is final: nothing that could follow them makes a model of them.
 abbrev pub FaultsForGood : Type 0

@@ -122,7 +122,7 @@ argument n d bs =
 
 -- bit 0 has no name in the map of a vararg or kwarg
 abbrev pub starFields : ℕ → List ℕ → Out ℕ
-starFields n bs = bind (fields n 4 bs) (λ m r. cond (eqb (m % 2) 1) (fault (place n bs)) (read m r))
+starFields n bs = bind (fields n 4 bs) (λ m r. cond (bit m 1) (fault (place n bs)) (read m r))
 
 abbrev pub star : ℕ → ℕ → List ℕ → Out Star
 star n d bs =
@@ -173,10 +173,11 @@ ended n m (b ∷ bs) = fault (place n (b ∷ bs))
 abbrev pub deepestAllowed : ℕ
 deepestAllowed = 64
 
--- the version byte, which is at p
-abbrev pub versioned : ℕ → ℕ → ℕ → List ℕ → Out Module
-versioned n p v bs = cond (eqb v 1) (bind (oneModule n deepestAllowed bs) (ended n)) (fault p)
+-- the version byte, and behind it one module
+abbrev pub versioned : ℕ → List ℕ → Out Module
+versioned n [] = fault n
+versioned n (v ∷ bs) = cond (eqb v 1) (bind (oneModule n deepestAllowed bs) (ended n)) (fault (place n (v ∷ bs)))
 
 -- the model that these bytes are, or the place of the first fault
 abbrev pub model : List ℕ → Out Module
-model bs = bind (byte (length bs) bs) (versioned (length bs) (place (length bs) bs))
+model bs = versioned (length bs) bs

@@ -1,10 +1,19 @@
 // A cursor over the packed bytes, which steps through numbers, texts and tags. It keeps only what is left; `end` is the
 // model's length throughout, from which a place is told, and at which a fault shows where the bytes run out.
 ghost use mathlib.Core.Path.{_≡_};
-ghost use Rattle.model.specs.Read.{place as placeOf, byte as byteAt, number as numberAt, text as textAt, fields as fieldsAt, starFields as starFieldsAt, count as countAt, head as headAt};
+ghost use Prim.Native.Nat.{_<_};
+ghost use Rattle.model.specs.Read.{place as placeOf, byte as byteAt, number as numberAt, text as textAt, fields as fieldsAt, starFields as starFieldsAt, bit as bitOf, count as countAt, head as headAt};
 ghost use Rattle.model.specs.Steps.{Steps, Takes, asIs, headOf};
 use crate::expression::Expression;
 use crate::fault::Layout;
+
+// Whether the bit of this value stands in a map.
+pub(crate) fn stands(map: u16, bit: u16) -> bool
+    requires { ⌜ 0 < bit ⌝ }
+    ensures { λ r. ⌜ r ≡ bitOf map bit ⌝ }
+{
+    map / bit % 2 == 1
+}
 
 #[derive(Clone, Copy)]
 pub struct Cursor<'a> {
@@ -68,7 +77,7 @@ impl<'a> Cursor<'a> {
     {
         let place = self.place(end);
         let map = self.fields(end, 4)?;
-        if map % 2 == 1 { Err(Layout { place }) } else { Ok(map) }
+        if stands(map, 1) { Err(Layout { place }) } else { Ok(map) }
     }
 
     // The count of a list field that stands: at least one.

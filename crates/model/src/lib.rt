@@ -4,6 +4,7 @@ mod expression;
 mod fault;
 mod files;
 mod findings;
+mod laws;
 
 mod reader;
 
@@ -14,3 +15,6 @@ pub use files::File;
 pub use files::Listing;
 pub use files::Sibling;
 pub use findings::Findings;
+pub use laws::faults_for_good;
+pub use laws::faults_in_time;
+pub use laws::reads_exactly;

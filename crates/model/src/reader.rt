@@ -1,11 +1,10 @@
 // The reader of what a module declares: one pass over the packed bytes that checks the layout and notes what it finds
 // against the rules. Depth is tested before the first byte of an expression or a class.
 ghost use mathlib.Core.Path.{_≡_};
-ghost use Prim.Native.Nat.{_<_};
-ghost use Rattle.model.specs.Read.{bit as bitOf};
 ghost use Rattle.model.specs.Steps.{Goes, headOf};
 ghost use Rattle.model.specs.Audit.{noteHead, auditAny, auditParts, auditExpr, laps, auditName, auditPair, auditAttribute, auditArgument, auditStar, auditExprs, auditArguments, auditParameters, auditFunction, auditFunctions, auditAttributes, auditMembers, auditClassOver, auditClass, auditClasses, auditOwn};
 use crate::cursor::Cursor;
+use crate::cursor::stands;
 use crate::expression::Expression;
 use crate::fault::Layout;
 use crate::findings::Findings;
@@ -13,14 +12,6 @@ use crate::findings::Findings;
 pub(crate) struct Reader<'a> {
     pub(crate) at: Cursor<'a>,
     pub(crate) found: Findings,
-}
-
-// Whether the bit of this value stands in a map.
-pub(crate) fn stands(map: u16, bit: u16) -> bool
-    requires { ⌜ 0 < bit ⌝ }
-    ensures { λ r. ⌜ r ≡ bitOf map bit ⌝ }
-{
-    map / bit % 2 == 1
 }
 
 impl<'a> Reader<'a> {
