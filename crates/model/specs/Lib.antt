@@ -10,3 +10,4 @@ pub mod Audit
 pub mod Listed
 pub mod Uses
 pub mod Limits
+pub mod Verdict

@@ -12,6 +12,9 @@ use Rattle.model.specs.declared.findings.Findings.{Findings}
 use Rattle.model.specs.declared.files.Sibling.{Sibling}
 use Rattle.model.specs.declared.files.Listing.{Listing}
 use Rattle.model.specs.Files.{Held, held}
+use Rattle.model.specs.declared.uses.Use.{Use as UseOf}
+use Rattle.model.specs.declared.uses.Declared.{Declared as DeclaredOf}
+use Rattle.model.specs.Uses.{Use, use′, Declared}
 use Rattle.model.specs.Audit.{Gathered}
 use Rattle.std.specs.Of.Vec.{vec-items}
 use Rattle.model.specs.declared.expression.Expression.{Expression}
@@ -64,3 +67,10 @@ heldOf x = held (x .place) (x .holder) (x .name .now)
 -- what the code has gathered
 abbrev pub gathered : Findings → Listing → Gathered
 gathered found list = record { found = found; files = vec-items (list .files); siblings = map heldOf (vec-items (list .siblings)) }
+
+-- what a reference and a declared name of the code stand for
+abbrev pub useOf : UseOf → Use
+useOf u = use′ (u .place) (u .from .now) (u .name .now)
+
+abbrev pub declaredOf : DeclaredOf → Declared
+declaredOf d = record { place = d .place; name = d .name .now }

@@ -7,6 +7,7 @@ mod findings;
 mod laws;
 
 mod reader;
+mod uses;
 
 pub use expression::Expression;
 pub use fault::Fault;
@@ -18,3 +19,5 @@ pub use findings::Findings;
 pub use laws::faults_for_good;
 pub use laws::faults_in_time;
 pub use laws::reads_exactly;
+pub use uses::Declared;
+pub use uses::Use;
