@@ -8,11 +8,14 @@ use Rattle.std.specs.declared.result.Result.{Result}
 use Rattle.std.specs.declared.result.Result.the-variants.{Ok, Err}
 use Rattle.std.specs.Results.{ErrBy}
 use Rattle.std.proofs.shelf.Results.{err-from-errBy}
+use Rattle.std.specs.declared.option.Option.{Option}
 use Rattle.model.specs.declared.fault.Layout.{Layout}
+use Rattle.model.specs.declared.fault.Fault.{Fault}
+use Rattle.model.specs.declared.fault.Fault.the-variants.{Broken, Memory}
 use Rattle.model.specs.declared.findings.Findings.{Findings}
 use Rattle.model.specs.Read.{Out, read, fault, bind, place, count, Head, head}
-use Rattle.model.specs.Steps.{Goes}
-use Rattle.model.specs.Audit.{noteHead, auditParts, auditExpr, laps, auditList, auditClassOver, auditClass}
+use Rattle.model.specs.Steps.{Goes, Gathers}
+use Rattle.model.specs.Audit.{noteHead, auditParts, auditExpr, laps, auditList, auditClassOver, auditClass, Gathered, auditModuleOver, auditModule}
 
 pub goes-by : {T S : Type 0} (rest : List ℕ) (f : S) (r : Result T Layout) (o q : Out S) → q ≡ o → Goes rest f r o → Goes rest f r q
 goes-by rest f r o q e g = subst (λ (x : Out _). Goes rest f r x) (sym e) g
@@ -69,3 +72,26 @@ laps-fault one n i p bs f all h a e = a ∙ laps-more one n i bs f h ∙ ap (λ 
 pub listed-by : {S : Type 0} (n : ℕ) (one : List ℕ → S → Out S) (stands : Bool) (bs r : List ℕ) (f : S) (k : ℕ) (o : Out S) → stands ≡ true → count n bs ≡ read k r → laps one k r f ≡ o → auditList n one stands bs f ≡ o
 listed-by n one stands bs r f k o s e l =
     ap (λ (b : Bool). auditList n one b bs f) s ∙ ap (λ (q : Out ℕ). bind q (λ k r. laps one k r f)) e ∙ l
+
+-- the same at the level of modules, where memory may lack
+pub gathers-by : {T S : Type 0} (rest : List ℕ) (f : S) (r : Result T Fault) (o q : Out S) → q ≡ o → Gathers rest f r o → Gathers rest f r q
+gathers-by rest f r o q e g = subst (λ (x : Out _). Gathers rest f r x) (sym e) g
+
+pub module-at-zero : (n d p : ℕ) (h : Option ℕ) (bs : List ℕ) (g : Gathered) → d ≡ 0 → p ≡ place n bs → auditModule n d h bs g ≡ fault p
+unfolding auditModule
+module-at-zero n zero p h bs g z e = rw e refl
+module-at-zero n (suc d) p h bs g z e = absurd (omega arith)
+
+pub module-opened : (n d : ℕ) (h : Option ℕ) (bs : List ℕ) (g : Gathered) → (d ≡ 0 → ⊥) → auditModule n d h bs g ≡ auditModuleOver n (d - 1) (auditModule n (d - 1)) h bs g
+unfolding auditModule
+module-opened n zero h bs g z = absurd (z refl)
+module-opened n (suc d) h bs g z = let e : suc d - 1 ≡ d = omega arith in rw e refl
+
+-- the exit of a `?` on one of k items, of a list field that stands
+pub item-exits : {T S : Type 0} (rest : List ℕ) (f : S) (r : Result T Fault) (e : Fault) (rest′ : List ℕ) (f′ : S) (one : List ℕ → S → Out S) (n i : ℕ) (bs : List ℕ) (g : S) (all o : Out S) → ErrBy r (λ y. y ≡ e) → i < n → all ≡ laps one (n - i) bs g → o ≡ all → Gathers {T = Unit {0}} rest′ f′ (Err e) (one bs g) → Gathers rest f r o
+item-exits rest f r (Broken p) rest′ f′ one n i bs g all o b h a x y =
+    let q = err-from-errBy r b in
+    rw (q .1, q .2) (x ∙ laps-fault one n i (p .place) bs g all h a y)
+item-exits rest f r Memory rest′ f′ one n i bs g all o b h a x y =
+    let q = err-from-errBy r b in
+    rw (q .1, q .2) tt

@@ -1,7 +1,7 @@
 -- How an answer of the code and the bytes then left tell an outcome of reading.
 use Prim.Native.Nat.{ℕ}
 use mathlib.Core.Path.{_≡_}
-use mathlib.Core.List.{List, map}
+use mathlib.Core.List.{List, [], map}
 use denote.Ref.{RefT, now}
 use Rattle.std.specs.declared.result.Result.{Result}
 use Rattle.std.specs.declared.result.Result.the-variants.{Ok, Err}
@@ -15,7 +15,8 @@ use Rattle.model.specs.Files.{Held, held}
 use Rattle.model.specs.declared.uses.Use.{Use as UseOf}
 use Rattle.model.specs.declared.uses.Declared.{Declared as DeclaredOf}
 use Rattle.model.specs.Uses.{Use, use′, Declared}
-use Rattle.model.specs.Audit.{Gathered}
+use Rattle.model.specs.declared.read.Audit.{Audit as AuditOf}
+use Rattle.model.specs.Audit.{Gathered, audit}
 use Rattle.std.specs.Of.Vec.{vec-items}
 use Rattle.model.specs.declared.expression.Expression.{Expression}
 use Rattle.model.specs.declared.expression.Expression.the-variants.{None, False, True, Int, Float, Str, Ellipsis, Name, Attribute, BinOp, Tuple, List as ListOf, Subscript}
@@ -74,3 +75,9 @@ useOf u = use′ (u .place) (u .from .now) (u .name .now)
 
 abbrev pub declaredOf : DeclaredOf → Declared
 declaredOf d = record { place = d .place; name = d .name .now }
+
+-- what reading a whole model answers
+abbrev pub Audits : List ℕ → Result AuditOf Fault → Type 0
+Audits bs (Ok a) = audit bs ≡ read (gathered (a .found) (a .list)) []
+Audits bs (Err (Broken e)) = audit bs ≡ fault (e .place)
+Audits bs (Err Memory) = Unit {0}

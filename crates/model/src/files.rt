@@ -1,7 +1,7 @@
 // The files of a model as the reader lists them.
 ghost use mathlib.Core.Path.{_≡_};
 ghost use mathlib.Core.List.{[], _∷_, _++_};
-ghost use lib.ListN.{set};
+ghost use lib.ListN.{length, set};
 ghost use Rattle.std.specs.Of.Vec.{vec-items, vec-len};
 ghost use Rattle.std.specs.Vec.{made};
 ghost use Rattle.model.specs.Listed.{Opened, Settled};
@@ -49,6 +49,13 @@ impl<'a> Listing<'a> {
         self.files.push(File { place, holder, own: 0 })?;
         self.siblings.push(Sibling { place, holder, name })?;
         Ok(())
+    }
+
+    // How many files are listed: the next one's number.
+    pub(crate) fn next(&self) -> usize
+        ensures { λ r. ⌜ r ≡ length (vec-items (now (self .entry) .files)) ⌝ }
+    {
+        self.files.len()
     }
 
     pub(crate) fn settle(&mut self, number: usize, file: File)

@@ -5,7 +5,9 @@ mod fault;
 mod files;
 mod findings;
 mod laws;
+mod modules;
 
+mod read;
 mod reader;
 mod uses;
 
@@ -19,5 +21,7 @@ pub use findings::Findings;
 pub use laws::faults_for_good;
 pub use laws::faults_in_time;
 pub use laws::reads_exactly;
+pub use read::Audit;
+pub use read::read_model;
 pub use uses::Declared;
 pub use uses::Use;

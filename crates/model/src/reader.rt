@@ -9,6 +9,7 @@ use crate::expression::Expression;
 use crate::fault::Layout;
 use crate::findings::Findings;
 
+#[derive(Clone, Copy)]
 pub(crate) struct Reader<'a> {
     pub(crate) at: Cursor<'a>,
     pub(crate) found: Findings,
