@@ -12,3 +12,4 @@ pub mod Stable
 pub mod Continued
 pub mod Formats
 pub mod Timely
+pub mod Told

@@ -2,6 +2,7 @@
 -- place at which it shows. Proofs tie it to the tree that is read and to the rules on that tree.
 use Prim.Native.Nat.{ℕ, zero, suc, _+_, _-_, _/_, _%_, min}
 use mathlib.Core.Bool.{Bool, true, false, not, cond}
+use mathlib.Core.Path.{_≡_}
 use mathlib.Core.List.{List, [], _∷_, _++_}
 use lib.ListN.{length, set}
 use lib.Dec.{eqb, leb, ltb}
@@ -9,11 +10,11 @@ use Rattle.std.specs.declared.option.Option.{Option}
 use Rattle.std.specs.declared.option.Option.the-variants.{Some, None}
 use Rattle.text.specs.Names.{identifier, dotted}
 use Rattle.model.specs.declared.findings.Findings.{Findings}
-use Rattle.model.specs.Tree.{Text, Constant}
-use Rattle.model.specs.Read.{Out, read, fault, bind, place, byte, number, text, fields, starFields, count, bit, deepestAllowed, Head, head, constantHead, nameHead, attrHead, binopHead, tupleHead, listHead, subscriptHead}
-use Rattle.model.specs.Rules.{wellFormed}
+use Rattle.model.specs.Tree.{Text, Constant, Module}
+use Rattle.model.specs.Read.{Out, read, fault, bind, place, byte, number, text, fields, starFields, count, bit, deepestAllowed, Head, head, constantHead, nameHead, attrHead, binopHead, tupleHead, listHead, subscriptHead, model}
+use Rattle.model.specs.Rules.{wellFormed, Item, recordName, dottedName, literal, declared, moduleItems}
 use Rattle.model.specs.declared.files.File.{File}
-use Rattle.model.specs.Files.{file, Held, held}
+use Rattle.model.specs.Files.{file, Held, held, entries, helds}
 
 abbrev pub earlier : Option ℕ → ℕ → Option ℕ
 earlier None p = Some p
@@ -168,3 +169,30 @@ auditVersion n p v bs = cond (eqb v 1) (bind (auditModule n deepestAllowed None 
 
 abbrev pub audit : List ℕ → Out Gathered
 audit bs = bind (byte (length bs) bs) (auditVersion (length bs) (place (length bs) bs))
+
+-- what an item adds to the findings
+abbrev pub judgeItem : Item → Findings → Findings
+judgeItem (recordName p s) f = noteName p (identifier s) f
+judgeItem (dottedName p s) f = noteName p (dotted s) f
+judgeItem (literal p c) f = noteValue p (wellFormed c) f
+judgeItem (declared p b) f = noteEmpty p b f
+
+abbrev pub judgeAll : List Item → Findings → Findings
+judgeAll [] f = f
+judgeAll (i ∷ is) f = judgeAll is (judgeItem i f)
+
+-- what a pass gathers of a module that file h holds, and of what is gathered of a whole model
+abbrev pub gatherOf : Option ℕ → Gathered → Module → Gathered
+gatherOf h g m =
+    record { found = judgeAll (moduleItems m) (g .found); files = g .files ++ entries m (length (g .files)) h; siblings = g .siblings ++ helds m (length (g .files)) h }
+
+abbrev pub summary : Module → Gathered
+summary m = record { found = judgeAll (moduleItems m) (nothing .found); files = entries m 0 None; siblings = helds m 0 None }
+
+abbrev pub mapOut : {A B : Type 0} → (A → B) → Out A → Out B
+mapOut f (read a bs) = read (f a) bs
+mapOut f (fault p) = fault p
+
+-- One pass gathers just what the tree that is read holds.
+abbrev pub AuditsTree : Type 0
+AuditsTree = (bs : List ℕ) → audit bs ≡ mapOut summary (model bs)
