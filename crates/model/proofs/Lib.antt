@@ -13,3 +13,4 @@ pub mod Continued
 pub mod Formats
 pub mod Timely
 pub mod Told
+pub mod ToldModules

@@ -94,7 +94,7 @@ each-told items one pass t n b bs f =
     listed-told (λ a f. judgeAll (items a) f) (λ l f. judgeAll (eachItems items l) f) [] _∷_ one pass (λ f. refl) (each-step items) t n b bs f
 
 -- the name of a record, with what follows it
-named : {B : Type 0} (n p : ℕ) (bs : List ℕ) (f : Findings) (F : List ℕ → List ℕ → Out B) (G : Findings → List ℕ → Out Findings) (j : B → Findings) → ((s : List ℕ) (r : List ℕ) → G (noteName p (identifier s) f) r ≡ mapOut j (F s r)) → bind (auditName n p bs f) G ≡ mapOut j (bind (text n bs) F)
+pub named : {B : Type 0} (n p : ℕ) (bs : List ℕ) (f : Findings) (F : List ℕ → List ℕ → Out B) (G : Findings → List ℕ → Out Findings) (j : B → Findings) → ((s : List ℕ) (r : List ℕ) → G (noteName p (identifier s) f) r ≡ mapOut j (F s r)) → bind (auditName n p bs f) G ≡ mapOut j (bind (text n bs) F)
 named n p bs f F G j k = chain (text n bs) (auditName n p bs f) (λ s. noteName p (identifier s) f) F G j (sym (named-text (text n bs))) λ s r e. k s r
   where
     named-text : (o : Out (List ℕ)) → mapOut (λ s. noteName p (identifier s) f) o ≡ bind o (λ s r. read (noteName p (identifier s) f) r)

@@ -1,0 +1,74 @@
+-- The same of classes, modules and the whole model: what the one pass gathers is what the tree holds.
+use Prim.Native.Nat.{ℕ, zero, suc, _+_}
+use native.Mathlib.Omega.{arith}
+use mathlib.Core.Path.{_≡_, refl, ap, sym, subst, _∙_}
+use mathlib.Core.Bool.{Bool, true, false, cond}
+use mathlib.Core.List.{List, [], _∷_, _++_, append-assoc}
+use lib.ListN.{length, set, length-append}
+use lib.Dec.{eqb}
+use Rattle.std.specs.declared.option.Option.{Option}
+use Rattle.std.specs.declared.option.Option.the-variants.{Some, None}
+use Rattle.text.specs.Names.{identifier}
+use Rattle.model.specs.declared.findings.Findings.{Findings}
+use Rattle.model.specs.declared.files.File.{File}
+use Rattle.model.specs.Tree.{Class, Classes, Module, Modules, noClass, addClass, pymodule, noModule, addModule}
+use Rattle.model.specs.Read.{Out, read, fault, bind, place, text, fields, bit, listed, exprs, function, functions, attribute, attributes, classOver, oneClass, classes, moduleOver, oneModule, ended, versioned, deepestAllowed, model}
+use Rattle.model.specs.Rules.{Item, recordName, exprsItems, eachItems, attributeItems, functionItems, classItems, classesItems, moduleItems, modulesItems}
+use Rattle.model.specs.Files.{file, held, Held, modulesWithin, modulesIn, entries, entriesIn, helds, heldsIn}
+use Rattle.model.specs.Audit.{noteName, auditList, auditName, auditExprs, auditFunction, auditFunctions, auditAttribute, auditAttributes, auditMembers, auditClassOver, auditClass, auditClasses, auditOwn, Gathered, opened, auditRest, auditModuleOver, auditModule, auditEnd, auditVersion, audit, nothing, judgeAll, gatherOf, summary, mapOut, AuditsTree}
+use Rattle.model.proofs.Told.{judge-append, share, chain, last, Tells, listed-told, each-told, exprs-told, attribute-told, function-told, named}
+
+functions-told : (n d : ℕ) (b : Bool) (bs : List ℕ) (f : Findings) → auditFunctions n d b bs f ≡ mapOut (λ l. judgeAll (eachItems functionItems l) f) (functions n d b bs)
+functions-told n d b bs f = each-told functionItems (function n d) (auditFunction n d) (function-told n d) n b bs f
+
+attributes-told : (n d : ℕ) (b : Bool) (bs : List ℕ) (f : Findings) → auditAttributes n d b bs f ≡ mapOut (λ l. judgeAll (eachItems attributeItems l) f) (attributes n d b bs)
+attributes-told n d b bs f = each-told attributeItems (attribute n d) (auditAttribute n d) (attribute-told n d) n b bs f
+
+classes-told-by : (n : ℕ) (one : List ℕ → Out Class) (pass : List ℕ → Findings → Out Findings) → Tells (λ c f. judgeAll (classItems c) f) one pass → (b : Bool) (bs : List ℕ) (f : Findings) → auditList n pass b bs f ≡ mapOut (λ cs. judgeAll (classesItems cs) f) (listed n noClass addClass one b bs)
+classes-told-by n one pass t b bs f =
+    listed-told (λ c f. judgeAll (classItems c) f) (λ cs f. judgeAll (classesItems cs) f) noClass addClass one pass (λ f. refl) (λ c cs f. judge-append (classItems c) (classesItems cs) f) t n b bs f
+
+class-told-over : (n d : ℕ) (one : List ℕ → Out Class) (pass : List ℕ → Findings → Out Findings) → Tells (λ c f. judgeAll (classItems c) f) one pass → Tells (λ c f. judgeAll (classItems c) f) (classOver n d one) (auditClassOver n d pass)
+class-told-over n d one pass t bs f =
+    share (fields n 32 bs) _ _ _ λ m r0 e0.
+    named n (place n bs) r0 f _ _ _ λ s r1.
+    let f1 : Findings = noteName (place n bs) (identifier s) f in
+    flat (auditExprs n d (bit m 1) r1 f1) _ _ ∙
+    (chain (exprs n d (bit m 1) r1) _ _ _ _ _ (exprs-told n d (bit m 1) r1 f1) λ bases r2 e2.
+    let f2 : Findings = judgeAll (exprsItems bases) f1 in
+    flat (auditFunctions n d (bit m 2) r2 f2) _ _ ∙
+    (chain (functions n d (bit m 2) r2) _ _ _ _ _ (functions-told n d (bit m 2) r2 f2) λ methods r3 e3.
+    let f3 : Findings = judgeAll (eachItems functionItems methods) f2 in
+    flat (auditAttributes n d (bit m 4) r3 f3) _ _ ∙
+    (chain (attributes n d (bit m 4) r3) _ _ _ _ _ (attributes-told n d (bit m 4) r3 f3) λ attrs r4 e4.
+    let f4 : Findings = judgeAll (eachItems attributeItems attrs) f3 in
+    chain (exprs n d (bit m 8) r4) _ _ _ _ _ (exprs-told n d (bit m 8) r4 f4) λ decorators r5 e5.
+    let f5 : Findings = judgeAll (exprsItems decorators) f4 in
+    last (listed n noClass addClass one (bit m 16) r5) _ _ _ _ (classes-told-by n one pass t (bit m 16) r5 f5) λ inner r6 e6.
+    ap (λ (h : Findings). read h r6) (sym (judge-append (exprsItems bases) _ f1 ∙ judge-append (eachItems functionItems methods) _ f2 ∙ judge-append (eachItems attributeItems attrs) _ f3 ∙ judge-append (exprsItems decorators) _ f4)))))
+  where
+    flat : {A B C : Type 0} (o : Out A) (F : A → List ℕ → Out B) (G : B → List ℕ → Out C) → bind (bind o F) G ≡ bind o (λ a r. bind (F a r) G)
+    flat (read a r) F G = refl
+    flat (fault p) F G = refl
+
+pub class-told : (n d : ℕ) → Tells (λ c f. judgeAll (classItems c) f) (oneClass n d) (auditClass n d)
+unfolding oneClass auditClass
+class-told n zero bs f = refl
+class-told n (suc d) bs f = class-told-over n d (oneClass n d) (auditClass n d) (class-told n d) bs f
+
+-- numbering: a module takes as many numbers as it has modules
+mutual
+  entries-count : (m : Module) (k : ℕ) (h : Option ℕ) → length (entries m k h) ≡ modulesWithin m
+  entries-count (pymodule p s ms own cs fs as′) k h = let e = entriesIn-count ms (k + 1) (Some k) in omega arith
+
+  entriesIn-count : (ms : Modules) (k : ℕ) (h : Option ℕ) → length (entriesIn ms k h) ≡ modulesIn ms
+  entriesIn-count noModule k h = refl
+  entriesIn-count (addModule m ms) k h =
+      let a = entries-count m k h in
+      let b = entriesIn-count ms (k + modulesWithin m) h in
+      let c = length-append (entries m k h) (entriesIn ms (k + modulesWithin m) h) in
+      omega arith
+
+set-there : {A : Type 0} (xs : List A) (x y : A) (ys : List A) → set (xs ++ x ∷ ys) (length xs) y ≡ xs ++ y ∷ ys
+set-there [] x y ys = refl
+set-there (z ∷ xs) x y ys = ap (λ (l : List _). z ∷ l) (set-there xs x y ys)
