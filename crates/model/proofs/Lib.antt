@@ -14,3 +14,4 @@ pub mod Formats
 pub mod Timely
 pub mod Told
 pub mod ToldModules
+pub mod Soonest

@@ -15,7 +15,7 @@ use Rattle.model.specs.Tree.{Class, Classes, Module, Modules, noClass, addClas
 use Rattle.model.specs.Read.{Out, read, fault, bind, place, text, fields, bit, listed, exprs, function, functions, attribute, attributes, classOver, oneClass, classes, moduleOver, oneModule, ended, versioned, deepestAllowed, model}
 use Rattle.model.specs.Rules.{Item, recordName, exprsItems, eachItems, attributeItems, functionItems, classItems, classesItems, moduleItems, modulesItems}
 use Rattle.model.specs.Files.{file, held, Held, modulesWithin, modulesIn, entries, entriesIn, helds, heldsIn}
-use Rattle.model.specs.Audit.{noteName, auditList, auditName, auditExprs, auditFunction, auditFunctions, auditAttribute, auditAttributes, auditMembers, auditClassOver, auditClass, auditClasses, auditOwn, Gathered, opened, auditRest, auditModuleOver, auditModule, auditEnd, auditVersion, audit, nothing, judgeAll, gatherOf, summary, mapOut, AuditsTree}
+use Rattle.model.specs.Audit.{noteName, auditList, auditName, auditExprs, auditFunction, auditFunctions, auditAttribute, auditAttributes, auditMembers, auditClassOver, auditClass, auditClasses, auditOwn, Gathered, opened, auditRest, auditModuleOver, auditModule, auditEnd, auditVersion, audit, nothing, judgeAll, gatherOf, gatherAll, mapOut}
 use Rattle.model.proofs.Told.{judge-append, share, chain, last, Tells, listed-told, each-told, exprs-told, attribute-told, function-told, named}
 
 -- steps within steps are steps in a row
@@ -129,15 +129,15 @@ unfolding oneModule auditModule
 module-told n zero h bs g = refl
 module-told n (suc d) h bs g = module-told-over n d (oneModule n d) (auditModule n d) (module-told n d) h bs g
 
-end-told : (n : ℕ) (m : Module) (r : List ℕ) → auditEnd n (gatherOf None nothing m) r ≡ mapOut summary (ended n m r)
+end-told : (n : ℕ) (m : Module) (r : List ℕ) → auditEnd n (gatherOf None nothing m) r ≡ mapOut gatherAll (ended n m r)
 end-told n m [] = refl
 end-told n m (b ∷ r) = refl
 
-version-told : (n p v : ℕ) (bs : List ℕ) (b : Bool) → cond b (bind (auditModule n deepestAllowed None bs nothing) (auditEnd n)) (fault p) ≡ mapOut summary (cond b (bind (oneModule n deepestAllowed bs) (ended n)) (fault p))
+version-told : (n p v : ℕ) (bs : List ℕ) (b : Bool) → cond b (bind (auditModule n deepestAllowed None bs nothing) (auditEnd n)) (fault p) ≡ mapOut gatherAll (cond b (bind (oneModule n deepestAllowed bs) (ended n)) (fault p))
 version-told n p v bs true =
     chain (oneModule n deepestAllowed bs) _ _ _ _ _ (module-told n deepestAllowed None bs nothing) λ m r e. end-told n m r
 version-told n p v bs false = refl
 
-pub audits-tree : AuditsTree
-audits-tree [] = refl
-audits-tree (v ∷ bs) = version-told (length (v ∷ bs)) (place (length (v ∷ bs)) (v ∷ bs)) v bs (eqb v 1)
+pub audits-all : (bs : List ℕ) → audit bs ≡ mapOut gatherAll (model bs)
+audits-all [] = refl
+audits-all (v ∷ bs) = version-told (length (v ∷ bs)) (place (length (v ∷ bs)) (v ∷ bs)) v bs (eqb v 1)

@@ -12,7 +12,7 @@ use Rattle.text.specs.Names.{identifier, dotted}
 use Rattle.model.specs.declared.findings.Findings.{Findings}
 use Rattle.model.specs.Tree.{Text, Constant, Module}
 use Rattle.model.specs.Read.{Out, read, fault, bind, place, byte, number, text, fields, starFields, count, bit, deepestAllowed, Head, head, constantHead, nameHead, attrHead, binopHead, tupleHead, listHead, subscriptHead, model}
-use Rattle.model.specs.Rules.{wellFormed, Item, recordName, dottedName, literal, declared, moduleItems}
+use Rattle.model.specs.Rules.{wellFormed, Item, recordName, dottedName, literal, declared, moduleItems, brokenName, brokenValue, emptyAttribute, placesOf, least}
 use Rattle.model.specs.declared.files.File.{File}
 use Rattle.model.specs.Files.{file, Held, held, entries, helds}
 
@@ -186,12 +186,18 @@ abbrev pub gatherOf : Option ℕ → Gathered → Module → Gathered
 gatherOf h g m =
     record { found = judgeAll (moduleItems m) (g .found); files = g .files ++ entries m (length (g .files)) h; siblings = g .siblings ++ helds m (length (g .files)) h }
 
-abbrev pub summary : Module → Gathered
-summary m = record { found = judgeAll (moduleItems m) (nothing .found); files = entries m 0 None; siblings = helds m 0 None }
+abbrev pub gatherAll : Module → Gathered
+gatherAll m = record { found = judgeAll (moduleItems m) (nothing .found); files = entries m 0 None; siblings = helds m 0 None }
 
 abbrev pub mapOut : {A B : Type 0} → (A → B) → Out A → Out B
 mapOut f (read a bs) = read (f a) bs
 mapOut f (fault p) = fault p
+
+-- what there is to know of a tree: for each rule the least place at which an item breaks it, its files in short, and by whom
+-- each module is held
+abbrev pub summary : Module → Gathered
+summary m =
+    record { found = record { names = least (placesOf brokenName (moduleItems m)); values = least (placesOf brokenValue (moduleItems m)); empty = least (placesOf emptyAttribute (moduleItems m)) }; files = entries m 0 None; siblings = helds m 0 None }
 
 -- One pass gathers just what the tree that is read holds.
 abbrev pub AuditsTree : Type 0
