@@ -15,3 +15,4 @@ pub mod Timely
 pub mod Told
 pub mod ToldModules
 pub mod Soonest
+pub mod Answered

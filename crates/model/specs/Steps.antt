@@ -16,12 +16,12 @@ use Rattle.model.specs.declared.uses.Use.{Use as UseOf}
 use Rattle.model.specs.declared.uses.Declared.{Declared as DeclaredOf}
 use Rattle.model.specs.Uses.{Use, use′, Declared}
 use Rattle.model.specs.declared.read.Audit.{Audit as AuditOf}
-use Rattle.model.specs.Audit.{Gathered, audit}
+use Rattle.model.specs.Audit.{Gathered, audit, mapOut, summary}
 use Rattle.std.specs.Of.Vec.{vec-items}
 use Rattle.model.specs.declared.expression.Expression.{Expression}
 use Rattle.model.specs.declared.expression.Expression.the-variants.{None, False, True, Int, Float, Str, Ellipsis, Name, Attribute, BinOp, Tuple, List as ListOf, Subscript}
 use Rattle.model.specs.Tree.{Text, pyNone, pyFalse, pyTrue, int, float, str, ellipsis}
-use Rattle.model.specs.Read.{Out, read, fault, Head, constantHead, nameHead, attrHead, binopHead, tupleHead, listHead, subscriptHead}
+use Rattle.model.specs.Read.{Out, read, fault, Head, constantHead, nameHead, attrHead, binopHead, tupleHead, listHead, subscriptHead, model}
 
 abbrev pub asIs : ℕ → ℕ
 asIs k = k
@@ -76,8 +76,14 @@ useOf u = use′ (u .place) (u .from .now) (u .name .now)
 abbrev pub declaredOf : DeclaredOf → Declared
 declaredOf d = record { place = d .place; name = d .name .now }
 
--- what reading a whole model answers
+-- what one pass over a whole model answers
 abbrev pub Audits : List ℕ → Result AuditOf Fault → Type 0
 Audits bs (Ok a) = audit bs ≡ read (gathered (a .found) (a .list)) []
 Audits bs (Err (Broken e)) = audit bs ≡ fault (e .place)
 Audits bs (Err Memory) = Unit {0}
+
+-- the same in terms of the tree that is read
+abbrev pub Reads : List ℕ → Result AuditOf Fault → Type 0
+Reads bs (Ok a) = mapOut summary (model bs) ≡ read (gathered (a .found) (a .list)) []
+Reads bs (Err (Broken e)) = model bs ≡ fault (e .place)
+Reads bs (Err Memory) = Unit {0}
