@@ -1,0 +1,3 @@
+pub mod Ties
+pub mod Meets
+pub mod Wide

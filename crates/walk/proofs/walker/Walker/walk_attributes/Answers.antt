@@ -1,0 +1,11 @@
+use native.Mathlib.Omega.{arith}
+use mathlib.Core.Path.{refl}
+use mathlib.Core.List.{[], _∷_}
+use Rattle.walk.specs.Total.{attribute}
+use Rattle.walk.specs.Puts.{eachPut, attributePut}
+use Rattle.walk.proofs.Going.{sofar-more}
+use Rattle.walk.proofs.walker.Walker.walk_attributes.Needs as need
+
+pub loop-again : need.loop-again
+loop-again c =
+    sofar-more [] _∷_ (attribute (c .args .end) (c .args .depth)) attributePut (eachPut attributePut) (λ a l s. refl) (c .count-n .result) (c .loop .counter) _ _ _ _ _ _ (omega arith) (c .loop .inv) (c .in-Continue-walk-attribute .ensures tt .rest) (c .in-Continue-walk-attribute .ensures tt .uses)

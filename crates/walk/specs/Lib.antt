@@ -1,0 +1,5 @@
+pub mod Total
+pub mod Puts
+pub mod Walks
+pub mod Collects
+pub mod Reached
