@@ -45,7 +45,7 @@ append-map f (x ∷ xs) ys = ap (λ (l : List _). f x ∷ l) (append-map f xs ys
 
 -- the files in short have the places of the files
 mutual
-  places-same : (m : Module) (k : ℕ) (h : Option ℕ) → map filePlace (entries m k h) ≡ map modulePlace (files m)
+  pub places-same : (m : Module) (k : ℕ) (h : Option ℕ) → map filePlace (entries m k h) ≡ map modulePlace (files m)
   places-same (pymodule p s modules own classes functions attributes) k h =
       ap (λ (l : List ℕ). p ∷ l) (placesIn-same modules (k + 1) (Some k))
 
