@@ -1,0 +1,5 @@
+pub mod Calls
+pub mod Hex
+pub mod Replies
+pub mod Texts
+pub mod Words
