@@ -14,6 +14,7 @@ use Rattle.model.specs.Read.{Out, read, fault, model}
 use Rattle.model.specs.Files.{files}
 use Rattle.model.specs.Verdict.{accepted, verdict}
 use Rattle.verdict.specs.Answers.{Tells}
+use Rattle.rules.specs.Meets.{Loads}
 use Rattle.session.specs.Answers.{told}
 
 -- load makes the bytes the model where the verdict accepts them; otherwise it answers the verdict's refusal, or that memory
@@ -21,6 +22,15 @@ use Rattle.session.specs.Answers.{told}
 abbrev pub Loaded : List ℕ → List ℕ → Result (Unit {0}) Fault → List ℕ → Type 0
 Loaded bs before (Ok x) after = (verdict bs ≡ accepted) × (after ≡ bs)
 Loaded bs before (Err f) after = Tells (verdict bs) (told f) × (after ≡ before)
+
+-- accepted are exactly the models that meet the rules
+abbrev pub Refuted : Option (ℕ × ℕ) → List ℕ → Type 0
+Refuted None bs = Unit {0}
+Refuted (Some x) bs = Loads bs → ⊥
+
+abbrev pub LoadsWhatMeets : List ℕ → Result (Unit {0}) Fault → Type 0
+LoadsWhatMeets bs (Ok x) = Loads bs
+LoadsWhatMeets bs (Err f) = Refuted (told f) bs
 
 -- how many files a model has
 abbrev pub filesCount : Out Module → ℕ

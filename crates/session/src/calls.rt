@@ -2,7 +2,7 @@
 ghost use mathlib.Core.Path.{_≡_};
 ghost use mathlib.Core.List.{[]};
 ghost use Rattle.std.specs.Of.Vec.{vec-items};
-ghost use Rattle.session.specs.Calls.{Loaded, countOf};
+ghost use Rattle.session.specs.Calls.{Loaded, LoadsWhatMeets, countOf};
 use crate::fault::Fault;
 use crate::fault::FaultFromAlloc;
 use crate::fault::FaultFromRefusal;
@@ -21,6 +21,7 @@ impl Session {
     // Makes these bytes the model, if they meet every rule.
     pub fn load(&mut self, bytes: &[u8]) -> Result<(), Fault>
         ensures answer { λ r. ⌜ Loaded (now (bytes .entry)) (vec-items (now (self .entry) .bytes)) r (vec-items (now (self .exit) .bytes)) ⌝ }
+        ensures exactly { λ r. ⌜ LoadsWhatMeets (now (bytes .entry)) r ⌝ }
     {
         let files = judge_model(self.heap, bytes)?;
         let copy = Vec::from_slice(self.heap, bytes)?;
