@@ -68,7 +68,7 @@ step-good w C W D n done left (fault p) f b g h =
       value = e .value;
       holds = e .holds;
       more = g .more ++ e .more;
-      is = append-assoc done (g .pre) (g .more ++ e .more) ∙ (ap (λ x. done ++ x) (sym (append-assoc (g .pre) (g .more) (e .more)) ∙ ap (λ x. x ++ e .more) (g .is)) ∙ (sym (append-assoc done (w (g .value)) (e .more)) ∙ e .is))
+      is = append-assoc done (g .pre) (g .more ++ e .more) ∙ (ap (λ x. done ++ x) (sym (append-assoc (g .pre) (g .more) (e .more)) ∙ ap (λ x. x ++ e .more) (g .is)) ∙ (sym (append-assoc done (w (g .value)) (e .more)) ∙ e .is));
     }
 
 pub step : {A B : Type 0} {w : A → List ℕ} {C : A → Type 0} {W : B → List ℕ} {D : B → Type 0} {n : ℕ} {done left : List ℕ} {one : List ℕ → Out A} {f : A → List ℕ → Out B} → Bytes left → Reads w C n one → ((a : A) (r : List ℕ) → Bytes r → C a → Chain W D n (done ++ w a) r (f a r)) → Chain W D n done left (bind (one left) f)
@@ -76,7 +76,7 @@ step {w = w} {C = C} {W = W} {D = D} {n = n} {done = done} {left = left} {one = 
     let e : CanEnd W D (done ++ w (g .default)) = h (g .default) [] tt (g .fine) .ends in
     record {
       ends = record { value = e .value; holds = e .holds; more = w (g .default) ++ e .more; is = sym (append-assoc done (w (g .default)) (e .more)) ∙ e .is };
-      good = step-good w C W D n done left (one left) f b (g .at left b) h
+      good = step-good w C W D n done left (one left) f b (g .at left b) h;
     }
 
 pub last : {B : Type 0} {W : B → List ℕ} {D : B → Type 0} {n : ℕ} {done left : List ℕ} (v : B) → D v → done ≡ W v → Chain W D n done left (read v left)
@@ -142,8 +142,8 @@ module _ (n : ℕ) where
       go (x ∷ y ∷ bs) b =
           cond-both (ltb (x * 256 + y) 4) (read (x * 256 + y) bs) (fault (place n (x ∷ y ∷ bs))) (λ o. Good numberBytes (λ m. (m < 4) × (bit m 1 ≡ false)) n (x ∷ y ∷ bs) (bind o (λ m r. cond (bit m 1) (fault (place n (x ∷ y ∷ bs))) (read m r))))
           (λ e. cond-both (bit (x * 256 + y) 1) (fault (place n (x ∷ y ∷ bs))) (read (x * 256 + y) bs) (Good numberBytes (λ m. (m < 4) × (bit m 1 ≡ false)) n (x ∷ y ∷ bs))
-                (λ f. at-start numberBytes (λ m. (m < 4) × (bit m 1 ≡ false)) n (x ∷ y ∷ bs) 0 (omega arith, refl))
-                (λ f. (ap (λ z. z ++ bs) (sym (two x y (b .1 .0))), (ltb-true (x * 256 + y) 4 e, f))))
+          (λ f. at-start numberBytes (λ m. (m < 4) × (bit m 1 ≡ false)) n (x ∷ y ∷ bs) 0 (omega arith, refl))
+          (λ f. (ap (λ z. z ++ bs) (sym (two x y (b .1 .0))), (ltb-true (x * 256 + y) 4 e, f))))
           (λ e. at-start numberBytes (λ m. (m < 4) × (bit m 1 ≡ false)) n (x ∷ y ∷ bs) 0 (omega arith, refl))
 
   pub count-reads : Reads numberBytes (λ k. 0 < k) n (count n)
@@ -164,7 +164,7 @@ module _ (n : ℕ) where
       record {
         default = add (g .default) (h .default);
         fine = sa (g .default) (h .default) ∙ ap suc (h .fine);
-        at = λ bs b. step {done = []} b g (λ a r b′ c. step b′ h λ l s b″ e. last (add a l) (sa a l ∙ ap suc e) (sym (wa a l))) .good
+        at = λ bs b. step {done = []} b g (λ a r b′ c. step b′ h λ l s b″ e. last (add a l) (sa a l ∙ ap suc e) (sym (wa a l))) .good;
       }
 
   pub listed-reads : {A L : Type 0} (w : A → List ℕ) (wL : L → List ℕ) (size : L → ℕ) (none : L) (add : A → L → L) (one : List ℕ → Out A) → Reads w Any n one → wL none ≡ [] → size none ≡ 0 → ((a : A) (l : L) → wL (add a l) ≡ w a ++ wL l) → ((a : A) (l : L) → size (add a l) ≡ suc (size l)) → (b : Bool) → Reads (λ l. field (size l) (wL l)) (λ l. stands (size l) ≡ b) n (listed n none add one b)
@@ -172,7 +172,7 @@ module _ (n : ℕ) where
       record {
         default = add (g .default) none;
         fine = rw (sa (g .default) none) refl;
-        at = λ bs b. step {done = []} b count-reads (λ k r b′ c. final b′ (rows-reads w wL size none add one g wn sn wa sa k) λ l e. standing k (wL l) (size l) e c) .good
+        at = λ bs b. step {done = []} b count-reads (λ k r b′ c. final b′ (rows-reads w wL size none add one g wn sn wa sa k) λ l e. standing k (wL l) (size l) e c) .good;
       }
     where
       standing : (k : ℕ) (bs : List ℕ) (i : ℕ) → i ≡ k → 0 < k → (numberBytes k ++ bs ≡ field i bs) × (stands i ≡ true)

@@ -171,11 +171,11 @@ module _ (n : ℕ) where
         default = record { place = 0; name = []; value = None; annotation = None };
         fine = tt;
         at = λ bs b.
-          step {W = attributeBytes} {D = Any} {done = []} b (fields-reads n 4 (omega arith)) (λ m r0 b0 l.
-          step b0 (text-reads n) λ s r1 b1 c1.
-          step b1 (optional-reads n exprBytes (expr n d) (expr-reads d) (bit m 1)) λ v r2 b2 hv.
-          step b2 (optional-reads n exprBytes (expr n d) (expr-reads d) (bit m 2)) λ a r3 b3 ha.
-          last _ tt (attribute-is (place n bs) m l s v a hv ha)) .good
+            step {W = attributeBytes} {D = Any} {done = []} b (fields-reads n 4 (omega arith)) (λ m r0 b0 l.
+            step b0 (text-reads n) λ s r1 b1 c1.
+            step b1 (optional-reads n exprBytes (expr n d) (expr-reads d) (bit m 1)) λ v r2 b2 hv.
+            step b2 (optional-reads n exprBytes (expr n d) (expr-reads d) (bit m 2)) λ a r3 b3 ha.
+            last _ tt (attribute-is (place n bs) m l s v a hv ha)) .good;
       }
 
   argument-reads : (d : ℕ) → Reads argumentBytes Any n (argument n d)
@@ -184,11 +184,11 @@ module _ (n : ℕ) where
         default = record { place = 0; name = []; default = None; annotation = None };
         fine = tt;
         at = λ bs b.
-          step {W = argumentBytes} {D = Any} {done = []} b (fields-reads n 4 (omega arith)) (λ m r0 b0 l.
-          step b0 (text-reads n) λ s r1 b1 c1.
-          step b1 (optional-reads n exprBytes (expr n d) (expr-reads d) (bit m 1)) λ v r2 b2 hv.
-          step b2 (optional-reads n exprBytes (expr n d) (expr-reads d) (bit m 2)) λ a r3 b3 ha.
-          last _ tt (argument-is (place n bs) m l s v a hv ha)) .good
+            step {W = argumentBytes} {D = Any} {done = []} b (fields-reads n 4 (omega arith)) (λ m r0 b0 l.
+            step b0 (text-reads n) λ s r1 b1 c1.
+            step b1 (optional-reads n exprBytes (expr n d) (expr-reads d) (bit m 1)) λ v r2 b2 hv.
+            step b2 (optional-reads n exprBytes (expr n d) (expr-reads d) (bit m 2)) λ a r3 b3 ha.
+            last _ tt (argument-is (place n bs) m l s v a hv ha)) .good;
       }
 
   star-reads : (d : ℕ) → Reads starBytes Any n (star n d)
@@ -197,10 +197,10 @@ module _ (n : ℕ) where
         default = record { place = 0; name = []; annotation = None };
         fine = tt;
         at = λ bs b.
-          step {W = starBytes} {D = Any} {done = []} b (starFields-reads n) (λ m r0 b0 l.
-          step b0 (text-reads n) λ s r1 b1 c1.
-          step b1 (optional-reads n exprBytes (expr n d) (expr-reads d) (bit m 2)) λ a r2 b2 ha.
-          last _ tt (star-is (place n bs) m l s a ha)) .good
+            step {W = starBytes} {D = Any} {done = []} b (starFields-reads n) (λ m r0 b0 l.
+            step b0 (text-reads n) λ s r1 b1 c1.
+            step b1 (optional-reads n exprBytes (expr n d) (expr-reads d) (bit m 2)) λ a r2 b2 ha.
+            last _ tt (star-is (place n bs) m l s a ha)) .good;
       }
 
   function-reads : (d : ℕ) → Reads functionBytes Any n (function n d)
@@ -209,16 +209,16 @@ module _ (n : ℕ) where
         default = record { place = 0; name = []; decorators = end; positional = []; regular = []; vararg = None; keyword = []; kwarg = None; returns = None };
         fine = tt;
         at = λ bs b.
-          step {W = functionBytes} {D = Any} {done = []} b (fields-reads n 128 (omega arith)) (λ m r0 b0 l.
-          step b0 (text-reads n) λ s r1 b1 c1.
-          step b1 (exprs-reads d (bit m 1)) λ ds r2 b2 hds.
-          step b2 (list-reads argumentBytes (argument n d) (argument-reads d) (bit m 2)) λ ps r3 b3 hps.
-          step b3 (list-reads argumentBytes (argument n d) (argument-reads d) (bit m 4)) λ rs r4 b4 hrs.
-          step b4 (optional-reads n starBytes (star n d) (star-reads d) (bit m 8)) λ va r5 b5 hva.
-          step b5 (list-reads argumentBytes (argument n d) (argument-reads d) (bit m 16)) λ ks r6 b6 hks.
-          step b6 (optional-reads n starBytes (star n d) (star-reads d) (bit m 32)) λ kw r7 b7 hkw.
-          step b7 (optional-reads n exprBytes (expr n d) (expr-reads d) (bit m 64)) λ re r8 b8 hre.
-          last _ tt (function-is (place n bs) m l s ds ps rs va ks kw re hds hps hrs hva hks hkw hre)) .good
+            step {W = functionBytes} {D = Any} {done = []} b (fields-reads n 128 (omega arith)) (λ m r0 b0 l.
+            step b0 (text-reads n) λ s r1 b1 c1.
+            step b1 (exprs-reads d (bit m 1)) λ ds r2 b2 hds.
+            step b2 (list-reads argumentBytes (argument n d) (argument-reads d) (bit m 2)) λ ps r3 b3 hps.
+            step b3 (list-reads argumentBytes (argument n d) (argument-reads d) (bit m 4)) λ rs r4 b4 hrs.
+            step b4 (optional-reads n starBytes (star n d) (star-reads d) (bit m 8)) λ va r5 b5 hva.
+            step b5 (list-reads argumentBytes (argument n d) (argument-reads d) (bit m 16)) λ ks r6 b6 hks.
+            step b6 (optional-reads n starBytes (star n d) (star-reads d) (bit m 32)) λ kw r7 b7 hkw.
+            step b7 (optional-reads n exprBytes (expr n d) (expr-reads d) (bit m 64)) λ re r8 b8 hre.
+            last _ tt (function-is (place n bs) m l s ds ps rs va ks kw re hds hps hrs hva hks hkw hre)) .good;
       }
 
   classes-listed : (one : List ℕ → Out Class) → Reads classBytes Any n one → (b : Bool) → Reads classesField (λ cs. stands (classesCount cs) ≡ b) n (listed n noClass addClass one b)
@@ -233,14 +233,14 @@ module _ (n : ℕ) where
         default = pyclass 0 [] end [] [] end noClass;
         fine = tt;
         at = λ bs b.
-          step {W = classBytes} {D = Any} {done = []} b (fields-reads n 32 (omega arith)) (λ m r0 b0 l.
-          step b0 (text-reads n) λ s r1 b1 c1.
-          step b1 (exprs-reads d (bit m 1)) λ bases r2 b2 hbases.
-          step b2 (list-reads functionBytes (function n d) (function-reads d) (bit m 2)) λ ms r3 b3 hms.
-          step b3 (list-reads attributeBytes (attribute n d) (attribute-reads d) (bit m 4)) λ ats r4 b4 hats.
-          step b4 (exprs-reads d (bit m 8)) λ ds r5 b5 hds.
-          step b5 (classes-listed one g (bit m 16)) λ inner r6 b6 hinner.
-          last _ tt (classOver-is (place n bs) m l s bases ms ats ds inner hbases hms hats hds hinner)) .good
+            step {W = classBytes} {D = Any} {done = []} b (fields-reads n 32 (omega arith)) (λ m r0 b0 l.
+            step b0 (text-reads n) λ s r1 b1 c1.
+            step b1 (exprs-reads d (bit m 1)) λ bases r2 b2 hbases.
+            step b2 (list-reads functionBytes (function n d) (function-reads d) (bit m 2)) λ ms r3 b3 hms.
+            step b3 (list-reads attributeBytes (attribute n d) (attribute-reads d) (bit m 4)) λ ats r4 b4 hats.
+            step b4 (exprs-reads d (bit m 8)) λ ds r5 b5 hds.
+            step b5 (classes-listed one g (bit m 16)) λ inner r6 b6 hinner.
+            last _ tt (classOver-is (place n bs) m l s bases ms ats ds inner hbases hms hats hds hinner)) .good;
       }
 
   pub oneClass-reads : (d : ℕ) → Reads classBytes Any n (oneClass n d)
@@ -254,13 +254,13 @@ module _ (n : ℕ) where
         default = pymodule 0 [] noModule 0 noClass [] [];
         fine = tt;
         at = λ bs b.
-          step {W = moduleBytes} {D = Any} {done = []} b (fields-reads n 16 (omega arith)) (λ m r0 b0 l.
-          step b0 (text-reads n) λ s r1 b1 c1.
-          step b1 (modules-listed one g (bit m 1)) λ ms r2 b2 hms.
-          step b2 (classes-listed (oneClass n d) (oneClass-reads d) (bit m 2)) λ cs r3 b3 hcs.
-          step b3 (list-reads functionBytes (function n d) (function-reads d) (bit m 4)) λ fs r4 b4 hfs.
-          step b4 (list-reads attributeBytes (attribute n d) (attribute-reads d) (bit m 8)) λ ats r5 b5 hats.
-          last _ tt (moduleOver-is (place n bs) (place n r2) m l s ms cs fs ats hms hcs hfs hats)) .good
+            step {W = moduleBytes} {D = Any} {done = []} b (fields-reads n 16 (omega arith)) (λ m r0 b0 l.
+            step b0 (text-reads n) λ s r1 b1 c1.
+            step b1 (modules-listed one g (bit m 1)) λ ms r2 b2 hms.
+            step b2 (classes-listed (oneClass n d) (oneClass-reads d) (bit m 2)) λ cs r3 b3 hcs.
+            step b3 (list-reads functionBytes (function n d) (function-reads d) (bit m 4)) λ fs r4 b4 hfs.
+            step b4 (list-reads attributeBytes (attribute n d) (attribute-reads d) (bit m 8)) λ ats r5 b5 hats.
+            last _ tt (moduleOver-is (place n bs) (place n r2) m l s ms cs fs ats hms hcs hfs hats)) .good;
       }
 
   pub oneModule-reads : (d : ℕ) → Reads moduleBytes Any n (oneModule n d)

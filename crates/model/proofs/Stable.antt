@@ -211,5 +211,5 @@ versioned-ends n more (v ∷ bs) =
 pub model-final : (bs : List ℕ) (p : ℕ) → model bs ≡ fault p → p < length bs → (more : List ℕ) → model (bs ++ more) ≡ fault p
 model-final bs p e l more =
     let h : Ends (length bs) (fault p) (versioned (length bs + length more) (bs ++ more)) =
-          subst (λ o. Ends (length bs) o (versioned (length bs + length more) (bs ++ more))) e (versioned-ends (length bs) more bs) in
+    subst (λ o. Ends (length bs) o (versioned (length bs + length more) (bs ++ more))) e (versioned-ends (length bs) more bs) in
     ap (λ k. versioned k (bs ++ more)) (length-append bs more) ∙ h l

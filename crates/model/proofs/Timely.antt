@@ -22,6 +22,6 @@ pub faults-in-time : FaultsInTime
 faults-in-time bs b p e =
     let c : Cut encode Any (length bs) bs p = subst (Good encode Any (length bs) bs) e (versioned-good (length bs) bs b) in
     ⊎-elim
-      (λ h. (omega arith, inl (front bs p p c h)))
-      (λ h. (omega arith, inr (h .0, front bs p (p - 1) c (omega arith))))
-      (c .near)
+    (λ h. (omega arith, inl (front bs p p c h)))
+    (λ h. (omega arith, inr (h .0, front bs p (p - 1) c (omega arith))))
+    (c .near)

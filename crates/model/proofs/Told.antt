@@ -116,6 +116,7 @@ below n limit bs m r e = go (number n bs) e
     pick : (k : ℕ) (s : List ℕ) (b : Bool) → ltb k limit ≡ b → cond b (read k s) (fault (place n bs)) ≡ read m r → m < limit
     pick k s true t h = let y : k ≡ m = cc in subst (λ (x : ℕ). x < limit) y (ltb-true k limit t)
     pick k s false t h = let z : _≡_ {A = ℕ} 0 1 = cc in absurd (omega arith)
+
     go : (x : Out ℕ) → bind x (λ m r. cond (ltb m limit) (read m r) (fault (place n bs))) ≡ read m r → m < limit
     go (read k s) h = pick k s (ltb k limit) refl h
     go (fault p) h = let z : _≡_ {A = ℕ} 0 1 = cc in absurd (omega arith)

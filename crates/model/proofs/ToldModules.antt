@@ -93,9 +93,9 @@ gather-more h m ms g =
     let k : ℕ = length (g .files) in
     let there : length (g .files ++ entries m k h) ≡ k + modulesWithin m = length-append (g .files) (entries m k h) ∙ ap (λ (n : ℕ). k + n) (entries-count m k h) in
     gathered-same _ _ _ _ _ _
-      (judge-append (moduleItems m) (modulesItems ms) (g .found))
-      (sym (append-assoc (g .files) (entries m k h) (entriesIn ms (k + modulesWithin m) h)) ∙ ap (λ (n : ℕ). (g .files ++ entries m k h) ++ entriesIn ms n h) (sym there))
-      (sym (append-assoc (g .siblings) (helds m k h) (heldsIn ms (k + modulesWithin m) h)) ∙ ap (λ (n : ℕ). (g .siblings ++ helds m k h) ++ heldsIn ms n h) (sym there))
+    (judge-append (moduleItems m) (modulesItems ms) (g .found))
+    (sym (append-assoc (g .files) (entries m k h) (entriesIn ms (k + modulesWithin m) h)) ∙ ap (λ (n : ℕ). (g .files ++ entries m k h) ++ entriesIn ms n h) (sym there))
+    (sym (append-assoc (g .siblings) (helds m k h) (heldsIn ms (k + modulesWithin m) h)) ∙ ap (λ (n : ℕ). (g .siblings ++ helds m k h) ++ heldsIn ms n h) (sym there))
 
 -- a module is whole: its file learns where its own declarations start
 closed : (p own : ℕ) (h : Option ℕ) (s : List ℕ) (g : Gathered) (ms : Modules) (f f′ : Findings) → f ≡ f′ → _≡_ {A = Gathered} (record { found = f; files = set (gatherIn (Some (length (g .files))) (opened p h s g) ms .files) (length (g .files)) (file p h own); siblings = gatherIn (Some (length (g .files))) (opened p h s g) ms .siblings }) (record { found = f′; files = g .files ++ file p h own ∷ entriesIn ms (length (g .files) + 1) (Some (length (g .files))); siblings = g .siblings ++ held p h s ∷ heldsIn ms (length (g .files) + 1) (Some (length (g .files))) })
@@ -103,8 +103,8 @@ closed p own h s g ms f f′ e =
     let k : ℕ = length (g .files) in
     let there : length (g .files ++ file p h 0 ∷ []) ≡ k + 1 = length-append (g .files) (file p h 0 ∷ []) in
     gathered-same _ _ _ _ _ _ e
-      (ap (λ (n : ℕ). set ((g .files ++ file p h 0 ∷ []) ++ entriesIn ms n (Some k)) k (file p h own)) there ∙ ap (λ (l : List File). set l k (file p h own)) (append-assoc (g .files) (file p h 0 ∷ []) (entriesIn ms (k + 1) (Some k))) ∙ set-there (g .files) (file p h 0) (file p h own) (entriesIn ms (k + 1) (Some k)))
-      (ap (λ (n : ℕ). (g .siblings ++ held p h s ∷ []) ++ heldsIn ms n (Some k)) there ∙ append-assoc (g .siblings) (held p h s ∷ []) (heldsIn ms (k + 1) (Some k)))
+    (ap (λ (n : ℕ). set ((g .files ++ file p h 0 ∷ []) ++ entriesIn ms n (Some k)) k (file p h own)) there ∙ ap (λ (l : List File). set l k (file p h own)) (append-assoc (g .files) (file p h 0 ∷ []) (entriesIn ms (k + 1) (Some k))) ∙ set-there (g .files) (file p h 0) (file p h own) (entriesIn ms (k + 1) (Some k)))
+    (ap (λ (n : ℕ). (g .siblings ++ held p h s ∷ []) ++ heldsIn ms n (Some k)) there ∙ append-assoc (g .siblings) (held p h s ∷ []) (heldsIn ms (k + 1) (Some k)))
 
 module-told-over : (n d : ℕ) (one : List ℕ → Out Module) (pass : Option ℕ → List ℕ → Gathered → Out Gathered) → ((h : Option ℕ) → Tells (λ m g. gatherOf h g m) one (pass h)) → (h : Option ℕ) → Tells (λ m g. gatherOf h g m) (moduleOver n d one) (auditModuleOver n d pass h)
 module-told-over n d one pass t h bs g =

@@ -68,7 +68,11 @@ impl<'a> Cursor<'a> {
     {
         let place = self.place(end);
         let map = self.number(end)?;
-        if map < limit { Ok(map) } else { Err(Layout { place }) }
+        if map < limit {
+            Ok(map)
+        } else {
+            Err(Layout { place })
+        }
     }
 
     // The map of a vararg or kwarg, in which bit 0 has no name.
@@ -77,7 +81,11 @@ impl<'a> Cursor<'a> {
     {
         let place = self.place(end);
         let map = self.fields(end, 4)?;
-        if stands(map, 1) { Err(Layout { place }) } else { Ok(map) }
+        if stands(map, 1) {
+            Err(Layout { place })
+        } else {
+            Ok(map)
+        }
     }
 
     // The count of a list field that stands: at least one.
@@ -86,7 +94,11 @@ impl<'a> Cursor<'a> {
     {
         let place = self.place(end);
         let count = self.number(end)?;
-        if count == 0 { Err(Layout { place }) } else { Ok(count) }
+        if count == 0 {
+            Err(Layout { place })
+        } else {
+            Ok(count)
+        }
     }
 
     // How the next expression begins.

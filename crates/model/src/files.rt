@@ -43,11 +43,26 @@ fn place_file(files: &mut Vec<File>, number: usize, file: File)
 
 impl<'a> Listing<'a> {
     // One module more, whose own declarations are still to be found.
-    pub(crate) fn open(&mut self, place: usize, holder: Option<usize>, name: &'a [u8]) -> Result<(), AllocError>
+    pub(crate) fn open(
+        &mut self,
+        place: usize,
+        holder: Option<usize>,
+        name: &'a [u8],
+    ) -> Result<(), AllocError>
         ensures { λ r. ⌜ made r (λ _. Opened place holder (now (name .entry)) (now (self .entry)) (now (self .exit))) ⌝ }
     {
-        self.files.push(File { place, holder, own: 0 })?;
-        self.siblings.push(Sibling { place, holder, name })?;
+        self.files
+            .push(File {
+                place,
+                holder,
+                own: 0,
+            })?;
+        self.siblings
+            .push(Sibling {
+                place,
+                holder,
+                name,
+            })?;
         Ok(())
     }
 

@@ -6,7 +6,6 @@ mod files;
 mod findings;
 mod laws;
 mod modules;
-
 mod read;
 mod reader;
 mod uses;

@@ -13,7 +13,13 @@ use crate::files::Listing;
 use crate::reader::Reader;
 
 impl<'a> Reader<'a> {
-    pub(crate) fn module(&mut self, list: &mut Listing<'a>, end: usize, holder: Option<usize>, depth: u8) -> Result<(), Fault>
+    pub(crate) fn module(
+        &mut self,
+        list: &mut Listing<'a>,
+        end: usize,
+        holder: Option<usize>,
+        depth: u8,
+    ) -> Result<(), Fault>
         ensures { λ r. ⌜ Gathers (now (self .exit) .at .rest .now) (gathered (now (self .exit) .found) (now (list .exit))) r (auditModule end depth holder (now (self .entry) .at .rest .now) (gathered (now (self .entry) .found) (now (list .entry)))) ⌝ }
     {
         if depth == 0 {
@@ -24,7 +30,13 @@ impl<'a> Reader<'a> {
     }
 
     // A module whose parts may go this deep.
-    fn module_record(&mut self, list: &mut Listing<'a>, end: usize, holder: Option<usize>, depth: u8) -> Result<(), Fault>
+    fn module_record(
+        &mut self,
+        list: &mut Listing<'a>,
+        end: usize,
+        holder: Option<usize>,
+        depth: u8,
+    ) -> Result<(), Fault>
         ensures { λ r. ⌜ Gathers (now (self .exit) .at .rest .now) (gathered (now (self .exit) .found) (now (list .exit))) r (auditModuleOver end depth (auditModule end depth) holder (now (self .entry) .at .rest .now) (gathered (now (self .entry) .found) (now (list .entry)))) ⌝ }
     {
         let place = self.at.place(end);
@@ -34,21 +46,54 @@ impl<'a> Reader<'a> {
         self.found.name(place, text::is_identifier(name));
         list.open(place, holder, name)?;
         self.modules(list, end, stands(map, 1), Some(number), depth)?;
-        self.declarations(list, end, map, number, File { place, holder, own: 0 }, depth)
+        self.declarations(
+            list,
+            end,
+            map,
+            number,
+            File {
+                place,
+                holder,
+                own: 0,
+            },
+            depth,
+        )
     }
 
     // What a module declares itself; its file learns where that starts.
-    fn declarations(&mut self, list: &mut Listing<'a>, end: usize, map: u16, number: usize, file: File, depth: u8) -> Result<(), Fault>
+    fn declarations(
+        &mut self,
+        list: &mut Listing<'a>,
+        end: usize,
+        map: u16,
+        number: usize,
+        file: File,
+        depth: u8,
+    ) -> Result<(), Fault>
         ensures { λ r. ⌜ Gathers (now (self .exit) .at .rest .now) (gathered (now (self .exit) .found) (now (list .exit))) r (auditRest end depth map number (fileOf (file .place) (file .holder)) (now (self .entry) .at .rest .now) (gathered (now (self .entry) .found) (now (list .entry)))) ⌝ }
     {
         let own = self.at.place(end);
         self.own(end, map, depth)?;
-        list.settle(number, File { place: file.place, holder: file.holder, own });
+        list.settle(
+            number,
+            File {
+                place: file.place,
+                holder: file.holder,
+                own,
+            },
+        );
         Ok(())
     }
 
     // A list field of submodules, where it stands.
-    fn modules(&mut self, list: &mut Listing<'a>, end: usize, stands: bool, holder: Option<usize>, depth: u8) -> Result<(), Fault>
+    fn modules(
+        &mut self,
+        list: &mut Listing<'a>,
+        end: usize,
+        stands: bool,
+        holder: Option<usize>,
+        depth: u8,
+    ) -> Result<(), Fault>
         ensures { λ r. ⌜ Gathers (now (self .exit) .at .rest .now) (gathered (now (self .exit) .found) (now (list .exit))) r (auditList end (auditModule end depth holder) stands (now (self .entry) .at .rest .now) (gathered (now (self .entry) .found) (now (list .entry)))) ⌝ }
     {
         if !stands {

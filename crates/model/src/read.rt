@@ -34,9 +34,16 @@ fn pass<'a>(heap: Global, model: &'a [u8]) -> Result<Audit<'a>, Fault>
     let end = model.len();
     let mut reader = Reader {
         at: Cursor { rest: model },
-        found: Findings { names: None, values: None, empty: None },
+        found: Findings {
+            names: None,
+            values: None,
+            empty: None,
+        },
     };
-    let mut list = Listing { files: Vec::new(heap), siblings: Vec::new(heap) };
+    let mut list = Listing {
+        files: Vec::new(heap),
+        siblings: Vec::new(heap),
+    };
     let start = reader.at.place(end);
     let version = reader.at.byte(end)?;
     if version != VERSION {
@@ -47,5 +54,8 @@ fn pass<'a>(heap: Global, model: &'a [u8]) -> Result<Audit<'a>, Fault>
         let place = reader.at.place(end);
         return Err(Fault::Broken(Layout { place }));
     }
-    Ok(Audit { found: reader.found, list })
+    Ok(Audit {
+        found: reader.found,
+        list,
+    })
 }

@@ -43,7 +43,13 @@ impl<'a> Reader<'a> {
     }
 
     // The parts of an expression that begins by this head.
-    fn inside(&mut self, end: usize, place: usize, head: Expression<'a>, depth: u8) -> Result<(), Layout>
+    fn inside(
+        &mut self,
+        end: usize,
+        place: usize,
+        head: Expression<'a>,
+        depth: u8,
+    ) -> Result<(), Layout>
         ensures { λ r. ⌜ Goes (now (self .exit) .at .rest .now) (now (self .exit) .found) r (auditParts end (auditExpr end depth) place (headOf (head .entry)) (now (self .entry) .at .rest .now) (now (self .entry) .found)) ⌝ }
     {
         match head {

@@ -15,7 +15,11 @@ impl Session {
     pub fn new(heap: Global) -> Session
         ensures { λ r. ⌜ vec-items (r .bytes) ≡ [] ⌝ }
     {
-        Session { heap, bytes: Vec::new(heap), files: Vec::new(heap) }
+        Session {
+            heap,
+            bytes: Vec::new(heap),
+            files: Vec::new(heap),
+        }
     }
 
     // Makes these bytes the model, if they meet every rule.

@@ -30,7 +30,6 @@ use Rattle.model.specs.Verdict.{Verdict, accepted, refused, refusedAt, modulePl
 use Rattle.walk.specs.Total.{Own, ownIn}
 use Rattle.walk.specs.Reached.{ownOf}
 use Rattle.walk.proofs.Reaching.{files-reached}
-
 use Rattle.verdict.specs.Judged.{soonest, rootNamed, ownSurplus, filesSurplus, filePlace, surplusIn, verdictBy, filesOf, Judges}
 use Rattle.verdict.specs.declared.refusal.Refusal.{Refusal}
 use Rattle.verdict.specs.Answers.{Says}

@@ -163,12 +163,12 @@ module _ (n d d′ : ℕ) (l : d ≤ d′) where
       framed-agrees n 1 (Read.fields n 4) _ _ (λ q s x. record { place = q; name = s; value = x .0; annotation = x .1 }) (fields-agrees n 4)
       (field-agrees _ _ _ _ any-expr-agrees (last-agrees _ _ any-expr-agrees))
 
-  argument-agrees : Agrees (Read.argument n d) (argument n d′)
+  pub argument-agrees : Agrees (Read.argument n d) (argument n d′)
   argument-agrees =
       framed-agrees n 1 (Read.fields n 4) _ _ (λ q s x. record { place = q; name = s; default = x .0; annotation = x .1 }) (fields-agrees n 4)
       (field-agrees _ _ _ _ any-expr-agrees (last-agrees _ _ any-expr-agrees))
 
-  star-agrees : Agrees (Read.star n d) (star n d′)
+  pub star-agrees : Agrees (Read.star n d) (star n d′)
   star-agrees =
       framed-agrees n 2 (Read.starFields n) _ _ (λ q s x. record { place = q; name = s; annotation = x }) (star-fields-agrees n) (last-agrees _ _ any-expr-agrees)
 
@@ -207,6 +207,8 @@ pub agreement : Agreement
 agreement = record {
   expr = λ n d d′ l bs a r e. agreed (Read.expr n d bs) (expr n d′ bs) a r (expr-agrees n d d′ l bs) e;
   attribute = λ n d d′ l bs a r e. agreed (Read.attribute n d bs) (attribute n d′ bs) a r (attribute-agrees n d d′ l bs) e;
+  argument = λ n d d′ l bs a r e. agreed (Read.argument n d bs) (argument n d′ bs) a r (argument-agrees n d d′ l bs) e;
+  star = λ n d d′ l bs a r e. agreed (Read.star n d bs) (star n d′ bs) a r (star-agrees n d d′ l bs) e;
   function = λ n d d′ l bs a r e. agreed (Read.function n d bs) (function n d′ bs) a r (function-agrees n d d′ l bs) e;
   oneClass = λ n d d′ l bs a r e. agreed (Read.oneClass n d bs) (oneClass n d′ bs) a r (class-agrees n d d′ l bs) e;
 }

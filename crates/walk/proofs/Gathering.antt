@@ -7,14 +7,14 @@ use lib.ListN.{length, drop}
 use Rattle.std.specs.declared.option.Option.{Option}
 use Rattle.std.specs.declared.option.Option.the-variants.{Some, None}
 use Rattle.model.specs.Tree.{Text, Expr, Exprs, Attribute, Argument, Star, Function, Class, Classes, constant, name, attr, binop, tuple, list, subscript, end, item, pyclass, noClass, addClass}
-use Rattle.model.specs.Uses.{Use, use′, Declared, ifName, exprUses, exprsUses, eachUses, anyUses, attributeUses, argumentUses, starUses, functionUses, classUses, classesUses, collected, classesDeclared, functionsDeclared, attributesDeclared, declarations}
+use Rattle.model.specs.Uses.{Use, use′, Declared, ifName, exprUses, exprsUses, eachUses, anyUses, valueUses, annotationUses, attributeUses, argumentUses, starUses, functionUses, classUses, classesUses, collected, classesDeclared, functionsDeclared, attributesDeclared, declarations}
 use Rattle.model.specs.Read.{bit}
 use Rattle.model.specs.declared.files.File.{File}
 use Rattle.model.specs.declared.uses.Declared.{Declared as DeclaredOf}
 use Rattle.walk.specs.declared.walker.Walker.{Walker}
 use Rattle.walk.specs.Walks.{Owns, left, gathered}
 use Rattle.walk.specs.Total.{number, classes, functions, attributes, own, ownIn}
-use Rattle.walk.specs.Puts.{exprPut, exprsPut, eachPut, anyPut, annotationPut, attributePut, argumentPut, starPut, functionPut, classPut, classesPut, Gathered, ownClassesPut, ownFunctionsPut, ownAttributesPut}
+use Rattle.walk.specs.Puts.{exprPut, exprsPut, eachPut, anyPut, valuePut, annotationPut, attributePut, argumentPut, starPut, functionPut, classPut, classesPut, Gathered, ownClassesPut, ownFunctionsPut, ownAttributesPut}
 use Rattle.walk.specs.Collects.{usesIn, declaredIn}
 
 -- p puts u behind what is there
@@ -58,14 +58,18 @@ any-adds : {A : Type 0} (put : A → List Use → List Use) (uses : A → List U
 any-adds put uses h None xs = nothing xs
 any-adds put uses h (Some a) xs = h a xs
 
-annotation-adds : (o : Option Expr) → Adds (annotationPut o) (anyUses exprUses o)
+-- which positions are collected
+value-adds : (o : Option Expr) → Adds (valuePut o) (valueUses o)
+value-adds o = nothing
+
+annotation-adds : (o : Option Expr) → Adds (annotationPut o) (annotationUses o)
 annotation-adds = any-adds exprPut exprUses expr-adds
 
 attribute-adds : (a : Attribute) → Adds (attributePut a) (attributeUses a)
-attribute-adds a = annotation-adds (a .annotation)
+attribute-adds a = both _ _ _ _ (value-adds (a .value)) (annotation-adds (a .annotation))
 
 argument-adds : (a : Argument) → Adds (argumentPut a) (argumentUses a)
-argument-adds a = annotation-adds (a .annotation)
+argument-adds a = both _ _ _ _ (value-adds (a .default)) (annotation-adds (a .annotation))
 
 star-adds : (a : Star) → Adds (starPut a) (starUses a)
 star-adds a = annotation-adds (a .annotation)

@@ -8,7 +8,7 @@ use Rattle.model.specs.Read as Read
 use Rattle.model.specs.Read.{Out, read, model}
 use Rattle.model.specs.Laws.{Bytes}
 use Rattle.model.specs.Files.{files, entries}
-use Rattle.walk.specs.Total.{expr, attribute, function, oneClass, Own, ownIn}
+use Rattle.walk.specs.Total.{expr, attribute, argument, star, function, oneClass, Own, ownIn}
 
 -- What one reading reads, to a depth, the other reads too, to that depth or a larger.
 abbrev pub Agreed : {A : Type 0} → (ℕ → ℕ → List ℕ → Out A) → (ℕ → ℕ → List ℕ → A × List ℕ) → Type 0
@@ -17,6 +17,8 @@ Agreed {A} strict total = (n d d′ : ℕ) → d ≤ d′ → (bs : List ℕ) (a
 pub record Agreement : Type 0 where
   pub expr : Agreed Read.expr expr
   pub attribute : Agreed Read.attribute attribute
+  pub argument : Agreed Read.argument argument
+  pub star : Agreed Read.star star
   pub function : Agreed Read.function function
   pub oneClass : Agreed Read.oneClass oneClass
 

@@ -141,7 +141,11 @@ impl<'a> Walker<'a> {
     }
 
     // A function or a method.
-    pub(crate) fn walk_function(&mut self, end: usize, depth: u8) -> Result<Declared<'a>, AllocError>
+    pub(crate) fn walk_function(
+        &mut self,
+        end: usize,
+        depth: u8,
+    ) -> Result<Declared<'a>, AllocError>
         ensures { λ r. ⌜ made r (λ v. Tells functionPut functionDeclared (functionAt end depth) (now (self .entry)) (now (self .exit)) v) ⌝ }
     {
         let place = self.at.place(end);
@@ -158,7 +162,11 @@ impl<'a> Walker<'a> {
     }
 
     // An attribute of a class or a module.
-    pub(crate) fn walk_attribute(&mut self, end: usize, depth: u8) -> Result<Declared<'a>, AllocError>
+    pub(crate) fn walk_attribute(
+        &mut self,
+        end: usize,
+        depth: u8,
+    ) -> Result<Declared<'a>, AllocError>
         ensures { λ r. ⌜ made r (λ v. Tells attributePut attributeDeclared (attributeAt end depth) (now (self .entry)) (now (self .exit)) v) ⌝ }
     {
         let place = self.at.place(end);
