@@ -1,6 +1,8 @@
 // Why a model was not loaded or counted, and the words for it.
 ghost use mathlib.Core.Path.{_≡_};
 ghost use Rattle.std.specs.declared.option.Option.the-variants.{Some};
+ghost use Rattle.session.specs.Answers.{told as toldOf};
+ghost use Rattle.commands.specs.Replies.{failureOf};
 ghost use Rattle.commands.specs.Texts.{causeText, failureText};
 use session::Fault;
 use std::fmt;
@@ -12,6 +14,8 @@ pub enum Failure {
 }
 
 pub impl From<Fault> for Failure as FailureFromFault {
+    ghost converts = { λ e r. r ≡ failureOf (toldOf e) };
+
     fn from(fault: Fault) -> Failure {
         match fault.told() {
             Some((number, place)) => Failure::Refused(number, place),

@@ -1,7 +1,9 @@
 // `pumpsooner session`: an answer for each call on standard input.
 ghost use mathlib.Core.Path.{_≡_};
 ghost use Rattle.std.specs.declared.option.Option.the-variants.{Some};
-ghost use Rattle.commands.specs.Replies.{Ends, Replies, Loading, Counting};
+ghost use Rattle.std.specs.Of.Vec.{vec-items};
+ghost use Rattle.session.specs.Calls.{countOf};
+ghost use Rattle.commands.specs.Replies.{Ends, Replies, Loading, LoadingBytes, counted};
 ghost use Rattle.commands.specs.Texts.{answerText};
 use crate::call::Call;
 use crate::call::call_of;
@@ -74,8 +76,7 @@ fn without_newline(line: &[u8]) -> &[u8]
 
 // The answer to a line. One that is no call leaves the session as it is.
 fn reply_to(heap: Global, session: &mut Session, line: &[u8]) -> Answer
-    ensures reply { λ r. ⌜ Replies (now (line .entry)) r ⌝ }
-    ensures same { λ r. ⌜ (r ≡ Answer.Unknown → now (session .exit) ≡ now (session .entry)) ⌝ }
+    ensures { λ r. ⌜ Replies (now (line .entry)) (vec-items (now (session .entry) .bytes)) (vec-items (now (session .exit) .bytes)) r ⌝ }
 {
     match call_of(line) {
         Call::Load(digits) => load(heap, session, digits),
@@ -85,21 +86,26 @@ fn reply_to(heap: Global, session: &mut Session, line: &[u8]) -> Answer
 }
 
 fn load(heap: Global, session: &mut Session, digits: &[u8]) -> Answer
-    ensures reply { λ r. ⌜ Loading (now (digits .entry)) r ⌝ }
-    ensures same { λ r. ⌜ (r ≡ Answer.Unknown → now (session .exit) ≡ now (session .entry)) ⌝ }
+    ensures { λ r. ⌜ Loading (now (digits .entry)) (vec-items (now (session .entry) .bytes)) (vec-items (now (session .exit) .bytes)) r ⌝ }
 {
     match unhex(heap, digits) {
-        Ok(Some(model)) => match session.load(model.as_slice()) {
-            Ok(()) => Answer::Loaded,
-            Err(fault) => Answer::Failed(fault.into()),
-        },
+        Ok(Some(model)) => load_bytes(session, model.as_slice()),
         Ok(None) => Answer::Unknown,
         Err(_) => Answer::Failed(Failure::Memory),
     }
 }
 
+fn load_bytes(session: &mut Session, model: &[u8]) -> Answer
+    ensures { λ r. ⌜ LoadingBytes (now (model .entry)) (vec-items (now (session .entry) .bytes)) (vec-items (now (session .exit) .bytes)) r ⌝ }
+{
+    match session.load(model) {
+        Ok(()) => Answer::Loaded,
+        Err(fault) => Answer::Failed(fault.into()),
+    }
+}
+
 fn count(session: &Session) -> Answer
-    ensures { λ r. ⌜ Counting r ⌝ }
+    ensures { λ r. ⌜ r ≡ counted (countOf (vec-items (now (session .entry) .bytes))) ⌝ }
 {
     match session.count() {
         Ok(files) => Answer::Count(files),

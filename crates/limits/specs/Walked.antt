@@ -1,8 +1,9 @@
 -- What a walk over entries has met, by the keys' texts and never by where those lie.
 use Prim.Native.Nat.{ℕ, _<_}
 use mathlib.Core.Path.{_≡_}
-use mathlib.Core.Bool.{Bool, not, cond, _&&_}
+use mathlib.Core.Bool.{Bool, true, false, not, cond, _&&_}
 use mathlib.Core.List.{List, [], _∷_, _++_}
+use mathlib.Core.Logic.{_⊎_}
 use lib.Dec.{ltb}
 use denote.Ref.{RefT}
 use Rattle.std.specs.declared.cmp.Ordering.{Ordering}
@@ -70,8 +71,22 @@ abbrev pub testOf : {K : Type 0} → (K → K → Bool) → Rule → K → List 
 testOf e Repeat k seen = occurs e k seen
 testOf e Surplus k seen = ltb distinctAllowed (distinct e (k ∷ seen))
 
-pub record Met (rule : Rule) (xs : List (Keyed Whole)) (w : Walk) : Type 0 where
-  pub lawful : Ordered by-parts (w .keys)
+-- whether every later key shows, so many different ones having come
+abbrev pub fullBy : Rule → ℕ → Bool
+fullBy Repeat count = false
+fullBy Surplus count = ltb distinctAllowed count
+
+-- the set has the keys that came
+pub record Kept (xs : List (Keyed Whole)) (w : Walk) : Type 0 where
   pub holds : (q : Key) → has by-parts (w .keys) q ≡ occurs same (keyOf q) (seenIn [] xs)
   pub count : size (w .keys) ≡ distinct same (seenIn [] xs)
+
+-- so many keys came that every later one shows, and the set has enough of them to tell so
+pub record Full (rule : Rule) (xs : List (Keyed Whole)) (w : Walk) : Type 0 where
+  pub told : fullBy rule (size (w .keys)) ≡ true
+  pub came : fullBy rule (distinct same (seenIn [] xs)) ≡ true
+
+pub record Met (rule : Rule) (xs : List (Keyed Whole)) (w : Walk) : Type 0 where
+  pub lawful : Ordered by-parts (w .keys)
+  pub known : Kept xs w ⊎ Full rule xs w
   pub least-is : w .least ≡ least (shownAfter (testOf same rule) [] xs)

@@ -2,9 +2,10 @@
 ghost use mathlib.Core.Path.{_≡_};
 ghost use mathlib.Core.List.{List, [], _∷_, _++_};
 ghost use Rattle.std.specs.Vec.{made};
+ghost use Rattle.std.specs.BTreeSet.{size};
 ghost use Rattle.model.specs.Limits.{Keyed};
 ghost use Rattle.model.specs.Rules.{sooner as soonerOf};
-ghost use Rattle.limits.specs.Walked.{Whole, Met, entryOf, shownBy};
+ghost use Rattle.limits.specs.Walked.{Whole, Met, entryOf, shownBy, fullBy};
 use std::alloc::AllocError;
 use std::alloc::Global;
 use std::collections::BTreeSet;
@@ -30,6 +31,7 @@ pub(crate) enum Rule {
 
 #[derive(Drop)]
 pub(crate) struct Walk<'a> {
+    // The keys that came, but none of those that came once the set was full.
     keys: BTreeSet<Key<'a>>,
     // The entries need not come by their places, so the walk goes on after a find and keeps the least place.
     pub(crate) least: Option<usize>,
@@ -64,9 +66,24 @@ impl<'a> Walk<'a> {
         }
     }
 
+    // Whether so many keys came that every later one shows.
+    fn is_full(&self, rule: Rule) -> bool
+        ensures { λ r. ⌜ r ≡ fullBy rule (size (now (self .entry) .keys)) ⌝ }
+    {
+        match rule {
+            Rule::Repeat => false,
+            Rule::Surplus => self.keys.len() > LIMIT,
+        }
+    }
+
     pub(crate) fn meet(&mut self, rule: Rule, place: usize, key: Key<'a>) -> Result<(), AllocError>
         ensures { λ r. ⌜ made r (λ _. (xs : List (Keyed Whole)) → Met rule xs (now (self .entry)) → Met rule (xs ++ entryOf place (key .entry) ∷ []) (now (self .exit))) ⌝ }
     {
+        // To insert moves up to as many keys as the set has, so a full one takes in no more.
+        if self.is_full(rule) {
+            self.least = Some(sooner(place, self.least));
+            return Ok(());
+        }
         let new = self.keys.insert(key)?;
         if shows(rule, new, self.keys.len()) {
             self.least = Some(sooner(place, self.least));

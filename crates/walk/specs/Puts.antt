@@ -38,11 +38,14 @@ valuePut v xs = xs
 abbrev pub annotationPut : Option Expr → List Use → List Use
 annotationPut = anyPut exprPut
 
+abbrev pub pairPut : Option Expr × Option Expr → List Use → List Use
+pairPut x xs = annotationPut (x .1) (valuePut (x .0) xs)
+
 abbrev pub attributePut : Attribute → List Use → List Use
-attributePut a xs = annotationPut (a .annotation) (valuePut (a .value) xs)
+attributePut a = pairPut (a .value, a .annotation)
 
 abbrev pub argumentPut : Argument → List Use → List Use
-argumentPut a xs = annotationPut (a .annotation) (valuePut (a .default) xs)
+argumentPut a = pairPut (a .default, a .annotation)
 
 abbrev pub starPut : Star → List Use → List Use
 starPut a xs = annotationPut (a .annotation) xs

@@ -85,13 +85,17 @@ expr n (suc d) bs = then (head bs) (parts (expr n d) (place n bs))
 abbrev pub anyExpr : ℕ → ℕ → Bool → List ℕ → Option Expr × List ℕ
 anyExpr n d = optional (expr n d)
 
+-- the value or the default, and the annotation, that a map tells
+abbrev pub pair : ℕ → ℕ → ℕ → List ℕ → (Option Expr × Option Expr) × List ℕ
+pair n d m bs = then (anyExpr n d (bit m 1) bs) λ value r. then (anyExpr n d (bit m 2) r) λ annotation s. ((value, annotation), s)
+
 abbrev pub attribute : ℕ → ℕ → List ℕ → Attribute × List ℕ
 attribute n d bs =
-    then (number bs) λ m r0. then (text r0) λ s r1. then (anyExpr n d (bit m 1) r1) λ value r2. then (anyExpr n d (bit m 2) r2) λ annotation r3. (record { place = place n bs; name = s; value = value; annotation = annotation }, r3)
+    then (number bs) λ m r0. then (text r0) λ s r1. then (pair n d m r1) λ x r2. (record { place = place n bs; name = s; value = x .0; annotation = x .1 }, r2)
 
 abbrev pub argument : ℕ → ℕ → List ℕ → Argument × List ℕ
 argument n d bs =
-    then (number bs) λ m r0. then (text r0) λ s r1. then (anyExpr n d (bit m 1) r1) λ default r2. then (anyExpr n d (bit m 2) r2) λ annotation r3. (record { place = place n bs; name = s; default = default; annotation = annotation }, r3)
+    then (number bs) λ m r0. then (text r0) λ s r1. then (pair n d m r1) λ x r2. (record { place = place n bs; name = s; default = x .0; annotation = x .1 }, r2)
 
 abbrev pub star : ℕ → ℕ → List ℕ → Star × List ℕ
 star n d bs =

@@ -10,7 +10,7 @@ ghost use Rattle.walk.specs.Puts.{skip as skipAt, skipParts as skipPartsAt, sk
 use model::Expression;
 
 // Whether the bit of this value stands in a map.
-pub fn stands(map: u16, bit: u16) -> bool
+pub(crate) fn stands(map: u16, bit: u16) -> bool
     requires { ⌜ 0 < bit ⌝ }
     ensures { λ r. ⌜ r ≡ bitOf map bit ⌝ }
 {
@@ -18,13 +18,13 @@ pub fn stands(map: u16, bit: u16) -> bool
 }
 
 #[derive(Clone, Copy)]
-pub struct Cursor<'a> {
+pub(crate) struct Cursor<'a> {
     pub rest: &'a [u8],
 }
 
 impl<'a> Cursor<'a> {
     // The cursor at this offset of the model.
-    pub fn at(model: &'a [u8], place: usize) -> Self
+    pub(crate) fn at(model: &'a [u8], place: usize) -> Self
         ensures { λ r. ⌜ r .rest .now ≡ drop place (now (model .entry)) ⌝ }
     {
         let start = place.min(model.len());
@@ -34,13 +34,13 @@ impl<'a> Cursor<'a> {
     }
 
     // Where the next byte stands in the model.
-    pub fn place(&self, end: usize) -> usize
+    pub(crate) fn place(&self, end: usize) -> usize
         ensures { λ r. ⌜ r ≡ placeOf end (now (self .entry) .rest .now) ⌝ }
     {
         end.saturating_sub(self.rest.len())
     }
 
-    pub fn byte(&mut self) -> u8
+    pub(crate) fn byte(&mut self) -> u8
         ensures is { λ r. ⌜ r ≡ byteAt (now (self .entry) .rest .now) .0 ⌝ }
         ensures rest { λ r. ⌜ now (self .exit) .rest .now ≡ byteAt (now (self .entry) .rest .now) .1 ⌝ }
     {
@@ -53,7 +53,7 @@ impl<'a> Cursor<'a> {
     }
 
     // A number of 16 bits, the high byte first.
-    pub fn number(&mut self) -> u16
+    pub(crate) fn number(&mut self) -> u16
         ensures is { λ r. ⌜ r ≡ numberAt (now (self .entry) .rest .now) .0 ⌝ }
         ensures rest { λ r. ⌜ now (self .exit) .rest .now ≡ numberAt (now (self .entry) .rest .now) .1 ⌝ }
     {
@@ -63,7 +63,7 @@ impl<'a> Cursor<'a> {
     }
 
     // A text: its length, and as many bytes, or all that are left.
-    pub fn text(&mut self) -> &'a [u8]
+    pub(crate) fn text(&mut self) -> &'a [u8]
         ensures is { λ r. ⌜ now r ≡ textAt (now (self .entry) .rest .now) .0 ⌝ }
         ensures rest { λ r. ⌜ now (self .exit) .rest .now ≡ textAt (now (self .entry) .rest .now) .1 ⌝ }
     {
@@ -75,7 +75,7 @@ impl<'a> Cursor<'a> {
     }
 
     // How many items a list field has: none where it does not stand.
-    pub fn count(&mut self, stands: bool) -> u16
+    pub(crate) fn count(&mut self, stands: bool) -> u16
         ensures is { λ r. ⌜ r ≡ countAt stands (now (self .entry) .rest .now) .0 ⌝ }
         ensures rest { λ r. ⌜ now (self .exit) .rest .now ≡ countAt stands (now (self .entry) .rest .now) .1 ⌝ }
     {
@@ -83,7 +83,7 @@ impl<'a> Cursor<'a> {
     }
 
     // How the next expression begins.
-    pub fn next(&mut self) -> Expression<'a>
+    pub(crate) fn next(&mut self) -> Expression<'a>
         ensures is { λ r. ⌜ headOf r ≡ headAt (now (self .entry) .rest .now) .0 ⌝ }
         ensures rest { λ r. ⌜ now (self .exit) .rest .now ≡ headAt (now (self .entry) .rest .now) .1 ⌝ }
     {
@@ -123,7 +123,7 @@ impl<'a> Cursor<'a> {
     }
 
     // Passes over an expression that may go this deep.
-    pub fn skip_expr(&mut self, depth: u8)
+    pub(crate) fn skip_expr(&mut self, depth: u8)
         ensures { λ _. ⌜ now (self .exit) .rest .now ≡ skipAt depth (now (self .entry) .rest .now) ⌝ }
     {
         if depth > 0 {

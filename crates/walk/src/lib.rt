@@ -6,7 +6,5 @@ mod walker;
 
 pub use collector::Collected;
 pub use collector::collect;
-pub use cursor::Cursor;
-pub use cursor::stands;
 pub use reached::files_reached;
 pub use reached::readings_agree;

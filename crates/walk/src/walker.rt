@@ -3,8 +3,8 @@ ghost use Rattle.std.specs.Vec.{made};
 ghost use Rattle.model.specs.Steps.{headOf};
 ghost use Rattle.model.specs.Tree.{end as noExpr, item as addExpr};
 ghost use Rattle.model.specs.Uses.{classDeclared};
-ghost use Rattle.walk.specs.Total.{expr as exprAt, parts as partsAt, rows as rowsAt, exprs as exprsAt, anyExpr as anyExprAt, attribute as attributeAt, argument as argumentAt, anyStar as anyStarAt, arguments as argumentsAt, function as functionAt, functions as functionsAt, attributes as attributesAt, classOver as classOverAt, oneClass as classAt, classes as classesAt};
-ghost use Rattle.walk.specs.Puts.{exprPut, exprsPut, eachPut, anyPut, valuePut, annotationPut, attributePut, argumentPut, starPut, functionPut, classPut, classesPut, functionDeclared, attributeDeclared};
+ghost use Rattle.walk.specs.Total.{expr as exprAt, parts as partsAt, rows as rowsAt, exprs as exprsAt, anyExpr as anyExprAt, pair as pairAt, attribute as attributeAt, argument as argumentAt, anyStar as anyStarAt, arguments as argumentsAt, function as functionAt, functions as functionsAt, attributes as attributesAt, classOver as classOverAt, oneClass as classAt, classes as classesAt};
+ghost use Rattle.walk.specs.Puts.{exprPut, exprsPut, eachPut, anyPut, valuePut, annotationPut, pairPut, attributePut, argumentPut, starPut, functionPut, classPut, classesPut, functionDeclared, attributeDeclared};
 ghost use Rattle.walk.specs.Walks.{Walks, Tells, Noted};
 use crate::cursor::Cursor;
 use crate::cursor::stands;
@@ -109,13 +109,20 @@ impl<'a> Walker<'a> {
         Ok(())
     }
 
+    // The value and the annotation of an attribute, or the default and the annotation of an argument.
+    fn walk_pair(&mut self, end: usize, map: u16, depth: u8) -> Result<(), AllocError>
+        ensures { λ r. ⌜ made r (λ _. Walks pairPut (pairAt end depth map) (now (self .entry)) (now (self .exit))) ⌝ }
+    {
+        self.walk_value(end, stands(map, 1), depth)?;
+        self.walk_annotation(end, stands(map, 2), depth)
+    }
+
     fn walk_argument(&mut self, end: usize, depth: u8) -> Result<(), AllocError>
         ensures { λ r. ⌜ made r (λ _. Walks argumentPut (argumentAt end depth) (now (self .entry)) (now (self .exit))) ⌝ }
     {
         let map = self.at.number();
         self.at.text();
-        self.walk_value(end, stands(map, 1), depth)?;
-        self.walk_annotation(end, stands(map, 2), depth)
+        self.walk_pair(end, map, depth)
     }
 
     fn walk_arguments(&mut self, end: usize, stands: bool, depth: u8) -> Result<(), AllocError>
@@ -172,8 +179,7 @@ impl<'a> Walker<'a> {
         let place = self.at.place(end);
         let map = self.at.number();
         let name = self.at.text();
-        self.walk_value(end, stands(map, 1), depth)?;
-        self.walk_annotation(end, stands(map, 2), depth)?;
+        self.walk_pair(end, map, depth)?;
         Ok(Declared { place, name })
     }
 
