@@ -16,3 +16,4 @@ pub mod Told
 pub mod ToldModules
 pub mod Soonest
 pub mod Answered
+pub mod Sized

@@ -4,3 +4,4 @@ pub mod Counts
 pub mod Siblings
 pub mod Loading
 pub mod Computed
+pub mod Refusing

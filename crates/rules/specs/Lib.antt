@@ -1,2 +1,3 @@
 pub mod Meets
 pub mod Cases
+pub mod Refusals

@@ -2,13 +2,10 @@
 use Prim.Native.Nat.{ℕ, _+_, _<_, _≤_}
 use native.Mathlib.Omega.{arith}
 use mathlib.Core.Path.{_≡_, refl, ap, sym, subst, _∙_}
-use mathlib.Core.Bool.{Bool, true, false, cond}
 use mathlib.Core.List.{List, [], _∷_, _++_, map}
 use lib.ListN.{length, drop}
-use lib.Dec.{eqb, ltb}
 use Rattle.std.specs.declared.option.Option.{Option}
 use Rattle.std.specs.declared.option.Option.the-variants.{Some, None}
-use Rattle.std.proofs.shelf.Tests.{ne-eqb, le-ltb}
 use Rattle.std.specs.Of.Vec.{vec-items}
 use Rattle.std.specs.declared.vec.Vec.{Vec}
 use Rattle.std.specs.declared.alloc.Global.{Global}
@@ -27,6 +24,7 @@ use Rattle.model.specs.Files.{files, filesIn, entries, entriesIn, helds, module
 use Rattle.model.specs.Laws.{Bytes}
 use Rattle.model.specs.Audit.{Gathered, mapOut, summary}
 use Rattle.model.specs.Verdict.{Verdict, accepted, refused, refusedAt, modulePlace, rootName, brokenNames, brokenValues, repeatedModules, emptyAttributes, surplus, surplusModules, surplusInFile, surplusInFiles, modulesAllowed, judged, judgedOut, verdict}
+use Rattle.model.proofs.Sized.{within-size}
 use Rattle.walk.specs.Total.{Own, ownIn}
 use Rattle.walk.specs.Reached.{ownOf}
 use Rattle.walk.proofs.Reaching.{files-reached}
@@ -82,12 +80,6 @@ out-same bs b g (read m r) e h =
     let y : r ≡ [] = cc in
     (judged-same bs b m (e ∙ ap (λ (s : List ℕ). read m s) y) ∙ ap (verdictBy bs) x, ap (λ (z : Gathered). z .files) x)
 out-same bs b g (fault p) e h = let z : _≡_ {A = ℕ} 0 1 = cc in absurd (omega arith)
-
-within-size : (bs : List ℕ) → (length bs ≡ 0 → ⊥) → length bs ≤ 16384 → verdict bs ≡ judgedOut (model bs)
-within-size bs z l =
-    let x : eqb (length bs) 0 ≡ false = ne-eqb (length bs) 0 z in
-    let y : ltb 16384 (length bs) ≡ false = le-ltb 16384 (length bs) l in
-    ap (λ (t : Bool). cond t (refused 1 0) (cond (ltb 16384 (length bs)) (refused 1 0) (judgedOut (model bs)))) x ∙ ap (λ (t : Bool). cond t (refused 1 0) (judgedOut (model bs))) y
 
 pub verdict-by : (bs : List ℕ) → Bytes bs → (g : Gathered) → (length bs ≡ 0 → ⊥) → length bs ≤ 16384 → mapOut summary (model bs) ≡ read g [] → (verdict bs ≡ verdictBy bs g) × (filesOf (model bs) ≡ g .files)
 verdict-by bs b g z l h =
