@@ -3,3 +3,4 @@ pub mod Hex
 pub mod Replies
 pub mod Texts
 pub mod Words
+pub mod Checks

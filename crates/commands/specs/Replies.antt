@@ -70,3 +70,9 @@ Replies line before after (Failed failure) =
 Replies line before after Unknown =
     ((((digits : List ℕ) → Loads line digits → ⊥) × (line ≡ codes "count" → ⊥)) × (after ≡ before))
     ⊎ ((digits : List ℕ) × (Loads line digits × Loading digits before after Unknown))
+
+-- what checking a model by itself answers: how many files it has where it is accepted, or the verdict's refusal
+abbrev pub ChecksModel : List ℕ → Result ℕ Failure → Type 0
+ChecksModel bs (Ok files) = (verdict bs ≡ accepted) × (countOf bs ≡ Ok files)
+ChecksModel bs (Err (Refused number place)) = verdict bs ≡ refused number place
+ChecksModel bs (Err Memory) = Unit {0}

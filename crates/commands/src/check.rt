@@ -1,5 +1,7 @@
 // `pumpsooner check`: a line for each file.
 ghost use Rattle.std.specs.declared.option.Option.the-variants.{Some};
+ghost use Rattle.commands.specs.Replies.{ChecksModel};
+ghost use Rattle.commands.specs.Checks.{ChecksFile};
 ghost use Rattle.commands.specs.Texts.{verdictText};
 use crate::report::Failure;
 use crate::report::FailureFromFault;
@@ -62,7 +64,9 @@ fn file(rt: &LibcRuntime, name: &str) -> io::Result<bool> {
     Ok(true)
 }
 
-fn verdict_of(heap: Global, model: &[u8]) -> Verdict {
+fn verdict_of(heap: Global, model: &[u8]) -> Verdict
+    ensures { λ r. ⌜ ChecksFile (now (model .entry)) r ⌝ }
+{
     match files_of(heap, model) {
         Ok(files) => Verdict::Loaded(files),
         Err(Failure::Refused(number, place)) => Verdict::Refused(number, place),
@@ -71,8 +75,11 @@ fn verdict_of(heap: Global, model: &[u8]) -> Verdict {
 }
 
 // How many files the model has, in a session of its own.
-fn files_of(heap: Global, model: &[u8]) -> Result<usize, Failure> {
+fn files_of(heap: Global, model: &[u8]) -> Result<usize, Failure>
+    ensures { λ r. ⌜ ChecksModel (now (model .entry)) r ⌝ }
+{
     let mut session = Session::new(heap);
     session.load(model)?;
-    Ok(session.count()?)
+    let files = session.count()?;
+    Ok(files)
 }

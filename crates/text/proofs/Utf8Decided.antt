@@ -13,7 +13,7 @@ use Rattle.std.proofs.shelf.Tests.{and-from, and-parts, cases-eq, cases-lt, con
 use Rattle.std.proofs.shelf.Ways.{decides-or, tells}
 use Rattle.text.specs.Names.{within}
 use Rattle.text.specs.Utf8.{lead, tails, lowest, highest, completes, utf8, Tail, Character, bytes, Utf8}
-use Rattle.text.specs.Utf8.{utf8-1, utf8-2, utf8-3-E0, utf8-3-E1-EC, utf8-3-ED, utf8-3-EE-EF, utf8-4-F0, utf8-4-F1-F3, utf8-4-F4}
+use Rattle.text.specs.Utf8.{utf8-1, utf8-2, utf8-3-E0, utf8-3-E1-EC, utf8-3-ED, utf8-3-EE-EF, utf8-4-xF0, utf8-4-xF1-xF3, utf8-4-xF4}
 use Rattle.text.proofs.NamesDecided.{within-decides}
 
 -- what a lead byte asks for
@@ -41,14 +41,14 @@ row-ED = record { leads = refl; lacks = refl; from = refl; to = refl }
 row-EE-EF : (a : ℕ) → In 0xEE 0xEF a → Row a 2 0x80 0xBF
 row-EE-EF a h = record { leads = grind (arith, tells); lacks = grind (arith, tells); from = grind (arith, tells); to = grind (arith, tells) }
 
-row-F0 : Row 0xF0 3 0x90 0xBF
-row-F0 = record { leads = refl; lacks = refl; from = refl; to = refl }
+row-xF0 : Row 0xF0 3 0x90 0xBF
+row-xF0 = record { leads = refl; lacks = refl; from = refl; to = refl }
 
-row-F1-F3 : (a : ℕ) → In 0xF1 0xF3 a → Row a 3 0x80 0xBF
-row-F1-F3 a h = record { leads = grind (arith, tells); lacks = grind (arith, tells); from = grind (arith, tells); to = grind (arith, tells) }
+row-xF1-xF3 : (a : ℕ) → In 0xF1 0xF3 a → Row a 3 0x80 0xBF
+row-xF1-xF3 a h = record { leads = grind (arith, tells); lacks = grind (arith, tells); from = grind (arith, tells); to = grind (arith, tells) }
 
-row-F4 : Row 0xF4 3 0x80 0x8F
-row-F4 = record { leads = refl; lacks = refl; from = refl; to = refl }
+row-xF4 : Row 0xF4 3 0x80 0x8F
+row-xF4 = record { leads = refl; lacks = refl; from = refl; to = refl }
 
 -- From the table to the test.
 
@@ -85,9 +85,9 @@ utf8-from (utf8-3-E0 b c hb hc ∷ cs) = three 0xE0 0xA0 0xBF b c (joined bytes 
 utf8-from (utf8-3-E1-EC a b c h hb hc ∷ cs) = three a 0x80 0xBF b c (joined bytes cs) (row-E1-EC a h) hb hc (utf8-from cs)
 utf8-from (utf8-3-ED b c hb hc ∷ cs) = three 0xED 0x80 0x9F b c (joined bytes cs) row-ED hb hc (utf8-from cs)
 utf8-from (utf8-3-EE-EF a b c h hb hc ∷ cs) = three a 0x80 0xBF b c (joined bytes cs) (row-EE-EF a h) hb hc (utf8-from cs)
-utf8-from (utf8-4-F0 b c d hb hc hd ∷ cs) = four 0xF0 0x90 0xBF b c d (joined bytes cs) row-F0 hb hc hd (utf8-from cs)
-utf8-from (utf8-4-F1-F3 a b c d h hb hc hd ∷ cs) = four a 0x80 0xBF b c d (joined bytes cs) (row-F1-F3 a h) hb hc hd (utf8-from cs)
-utf8-from (utf8-4-F4 b c d hb hc hd ∷ cs) = four 0xF4 0x80 0x8F b c d (joined bytes cs) row-F4 hb hc hd (utf8-from cs)
+utf8-from (utf8-4-xF0 b c d hb hc hd ∷ cs) = four 0xF0 0x90 0xBF b c d (joined bytes cs) row-xF0 hb hc hd (utf8-from cs)
+utf8-from (utf8-4-xF1-xF3 a b c d h hb hc hd ∷ cs) = four a 0x80 0xBF b c d (joined bytes cs) (row-xF1-xF3 a h) hb hc hd (utf8-from cs)
+utf8-from (utf8-4-xF4 b c d hb hc hd ∷ cs) = four 0xF4 0x80 0x8F b c d (joined bytes cs) row-xF4 hb hc hd (utf8-from cs)
 
 -- From the test to the table.
 
@@ -142,15 +142,15 @@ at-EE-EF : (a : ℕ) (bs : List ℕ) → In 0xEE 0xEF a → Lacking (tails a) (l
 at-EE-EF a bs h k =
     two-left a 0x80 0xBF bs (along a 2 0x80 0xBF bs (row-EE-EF a h) k) (λ b c t e hb hc u. put (utf8-3-EE-EF a b c h hb hc) (a ∷ bs) t e u)
 
-at-F0 : (bs : List ℕ) → Lacking 3 0x90 0xBF bs → Utf8 (0xF0 ∷ bs)
-at-F0 bs k = three-left 0xF0 0x90 0xBF bs k (λ b c d t e hb hc hd u. put (utf8-4-F0 b c d hb hc hd) (0xF0 ∷ bs) t e u)
+at-xF0 : (bs : List ℕ) → Lacking 3 0x90 0xBF bs → Utf8 (0xF0 ∷ bs)
+at-xF0 bs k = three-left 0xF0 0x90 0xBF bs k (λ b c d t e hb hc hd u. put (utf8-4-xF0 b c d hb hc hd) (0xF0 ∷ bs) t e u)
 
-at-F1-F3 : (a : ℕ) (bs : List ℕ) → In 0xF1 0xF3 a → Lacking (tails a) (lowest a) (highest a) bs → Utf8 (a ∷ bs)
-at-F1-F3 a bs h k =
-    three-left a 0x80 0xBF bs (along a 3 0x80 0xBF bs (row-F1-F3 a h) k) (λ b c d t e hb hc hd u. put (utf8-4-F1-F3 a b c d h hb hc hd) (a ∷ bs) t e u)
+at-xF1-xF3 : (a : ℕ) (bs : List ℕ) → In 0xF1 0xF3 a → Lacking (tails a) (lowest a) (highest a) bs → Utf8 (a ∷ bs)
+at-xF1-xF3 a bs h k =
+    three-left a 0x80 0xBF bs (along a 3 0x80 0xBF bs (row-xF1-xF3 a h) k) (λ b c d t e hb hc hd u. put (utf8-4-xF1-xF3 a b c d h hb hc hd) (a ∷ bs) t e u)
 
-at-F4 : (bs : List ℕ) → Lacking 3 0x80 0x8F bs → Utf8 (0xF4 ∷ bs)
-at-F4 bs k = three-left 0xF4 0x80 0x8F bs k (λ b c d t e hb hc hd u. put (utf8-4-F4 b c d hb hc hd) (0xF4 ∷ bs) t e u)
+at-xF4 : (bs : List ℕ) → Lacking 3 0x80 0x8F bs → Utf8 (0xF4 ∷ bs)
+at-xF4 bs k = three-left 0xF4 0x80 0x8F bs k (λ b c d t e hb hc hd u. put (utf8-4-xF4 b c d hb hc hd) (0xF4 ∷ bs) t e u)
 
 -- the row of the byte a, from what `Follows` says of any byte
 abbrev Follows : List ℕ → ℕ → Type 0
@@ -174,12 +174,12 @@ at-long a bs h =
                               | inl l ↦ at-EE-EF a bs (omega arith, omega arith)
                               | inr g ↦
                                   elim (cases-eq a 0xF0) [
-                                    | inl e ↦ subst (Follows bs) (sym e) (at-F0 bs)
+                                    | inl e ↦ subst (Follows bs) (sym e) (at-xF0 bs)
                                     | inr ne ↦
                                         elim (cases-lt a 0xF4) [
-                                          | inl l ↦ at-F1-F3 a bs (omega arith, omega arith)
+                                          | inl l ↦ at-xF1-xF3 a bs (omega arith, omega arith)
                                           | inr g ↦
-                                              subst (Follows bs) (let e : 0xF4 ≡ a = omega arith in e) (at-F4 bs)
+                                              subst (Follows bs) (let e : 0xF4 ≡ a = omega arith in e) (at-xF4 bs)
                                         ]
                                   ]
                             ]

@@ -45,9 +45,9 @@ pub data Character : Type 0 where
   utf8-3-E1-EC : (a b c : ℕ) → In 0xE1 0xEC a → Tail b → Tail c → Character
   utf8-3-ED : (b c : ℕ) → In 0x80 0x9F b → Tail c → Character
   utf8-3-EE-EF : (a b c : ℕ) → In 0xEE 0xEF a → Tail b → Tail c → Character
-  utf8-4-F0 : (b c d : ℕ) → In 0x90 0xBF b → Tail c → Tail d → Character
-  utf8-4-F1-F3 : (a b c d : ℕ) → In 0xF1 0xF3 a → Tail b → Tail c → Tail d → Character
-  utf8-4-F4 : (b c d : ℕ) → In 0x80 0x8F b → Tail c → Tail d → Character
+  utf8-4-xF0 : (b c d : ℕ) → In 0x90 0xBF b → Tail c → Tail d → Character
+  utf8-4-xF1-xF3 : (a b c d : ℕ) → In 0xF1 0xF3 a → Tail b → Tail c → Tail d → Character
+  utf8-4-xF4 : (b c d : ℕ) → In 0x80 0x8F b → Tail c → Tail d → Character
 
 abbrev pub bytes : Character → List ℕ
 bytes (utf8-1 a _) = a ∷ []
@@ -56,9 +56,9 @@ bytes (utf8-3-E0 b c _ _) = 0xE0 ∷ b ∷ c ∷ []
 bytes (utf8-3-E1-EC a b c _ _ _) = a ∷ b ∷ c ∷ []
 bytes (utf8-3-ED b c _ _) = 0xED ∷ b ∷ c ∷ []
 bytes (utf8-3-EE-EF a b c _ _ _) = a ∷ b ∷ c ∷ []
-bytes (utf8-4-F0 b c d _ _ _) = 0xF0 ∷ b ∷ c ∷ d ∷ []
-bytes (utf8-4-F1-F3 a b c d _ _ _ _) = a ∷ b ∷ c ∷ d ∷ []
-bytes (utf8-4-F4 b c d _ _ _) = 0xF4 ∷ b ∷ c ∷ d ∷ []
+bytes (utf8-4-xF0 b c d _ _ _) = 0xF0 ∷ b ∷ c ∷ d ∷ []
+bytes (utf8-4-xF1-xF3 a b c d _ _ _ _) = a ∷ b ∷ c ∷ d ∷ []
+bytes (utf8-4-xF4 b c d _ _ _) = 0xF4 ∷ b ∷ c ∷ d ∷ []
 
 pub record Utf8 (s : List ℕ) : Type 0 where
   pub characters : List Character

@@ -10,7 +10,7 @@ const TAIL_LOW: u8 = 0x80;
 
 const TAIL_HIGH: u8 = 0xBF;
 
-// C0, C1 and what lies above F4 would begin only characters that are too long or too large.
+// C0, C1 and what lies above 0xF4 would begin only characters that are too long or too large.
 fn is_lead(b: u8) -> bool
     ensures { λ r. ⌜ r ≡ lead b ⌝ }
 {
@@ -43,7 +43,7 @@ fn lowest_after(first: u8) -> u8
     }
 }
 
-// The highest second byte: after ED a higher one would write a surrogate, and after F4 a number above 10FFFF.
+// The highest second byte: after ED a higher one would write a surrogate, and after 0xF4 a number above 10FFFF.
 fn highest_after(first: u8) -> u8
     ensures { λ r. ⌜ r ≡ highest first ⌝ }
 {
