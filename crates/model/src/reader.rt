@@ -1,5 +1,5 @@
 // The reader of what a module declares: one pass over the packed bytes that checks the layout and notes what it finds
-// against the rules. Depth is tested before the first byte of an expression or a class.
+// against the rules. Depth is judged before the first byte of an expression or a class.
 ghost use mathlib.Core.Path.{_≡_};
 ghost use Rattle.model.specs.Steps.{Goes, headOf};
 ghost use Rattle.model.specs.Audit.{noteHead, auditAny, auditParts, auditExpr, laps, auditName, auditPair, auditAttribute, auditArgument, auditStar, auditExprs, auditArguments, auditParameters, auditFunction, auditFunctions, auditAttributes, auditMembers, auditClassOver, auditClass, auditClasses, auditOwn};

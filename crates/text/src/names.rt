@@ -74,7 +74,7 @@ fn is_spelled(s: &[u8]) -> bool
     !s.is_empty()
 }
 
-/// `==`, with its answer as a test that the specs compute.
+/// `==`, with its answer as a Bool that the specs compute.
 fn is_same(a: &[u8], b: &[u8]) -> bool
     ensures { λ r. ⌜ r ≡ sameBytes (now (a .entry)) (now (b .entry)) ⌝ }
 {

@@ -60,7 +60,7 @@ fn is_within(low: u8, high: u8, b: u8) -> bool
     low <= b && b <= high
 }
 
-/// UTF-8: whole characters, each in its shortest form, and no surrogates.
+/// UTF-8: whole characters, each as short as it can be, and no surrogates.
 pub fn is_utf8(s: &[u8]) -> bool
     ensures value { λ r. ⌜ r ≡ utf8 (now (s .entry)) ⌝ }
     ensures decides { λ r. ⌜ Decides r (Utf8 (now (s .entry))) ⌝ }
