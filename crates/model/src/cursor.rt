@@ -6,6 +6,8 @@ ghost use Rattle.model.specs.Read.{place as placeOf, byte as byteAt, number as
 ghost use Rattle.model.specs.Steps.{Steps, Takes, asIs, headOf};
 use crate::expression::Expression;
 use crate::fault::Layout;
+use crate::maps::VALUE;
+use crate::maps::VALUE_FIELDS;
 
 // Whether the bit of this value stands in a map.
 pub(crate) fn stands(map: u16, bit: u16) -> bool
@@ -80,8 +82,8 @@ impl<'a> Cursor<'a> {
         ensures { λ r. ⌜ Steps asIs (now (self .exit) .rest .now) r (starFieldsAt end (now (self .entry) .rest .now)) ⌝ }
     {
         let place = self.place(end);
-        let map = self.fields(end, 4)?;
-        if stands(map, 1) {
+        let map = self.fields(end, VALUE_FIELDS)?;
+        if stands(map, VALUE) {
             Err(Layout { place })
         } else {
             Ok(map)

@@ -5,6 +5,7 @@ mod fault;
 mod files;
 mod findings;
 mod laws;
+pub mod maps;
 mod modules;
 mod read;
 mod reader;

@@ -10,6 +10,8 @@ use crate::fault::FaultFromLayout;
 use crate::fault::Layout;
 use crate::files::File;
 use crate::files::Listing;
+use crate::maps::MODULE_FIELDS;
+use crate::maps::MODULE_MODULES;
 use crate::reader::Reader;
 
 impl<'a> Reader<'a> {
@@ -40,12 +42,12 @@ impl<'a> Reader<'a> {
         ensures { λ r. ⌜ Gathers (now (self .exit) .at .rest .now) (gathered (now (self .exit) .found) (now (list .exit))) r (auditModuleOver end depth (auditModule end depth) holder (now (self .entry) .at .rest .now) (gathered (now (self .entry) .found) (now (list .entry)))) ⌝ }
     {
         let place = self.at.place(end);
-        let map = self.at.fields(end, 16)?;
+        let map = self.at.fields(end, MODULE_FIELDS)?;
         let name = self.at.text(end)?;
         let number = list.next();
         self.found.name(place, text::is_identifier(name));
         list.open(place, holder, name)?;
-        self.modules(list, end, stands(map, 1), Some(number), depth)?;
+        self.modules(list, end, stands(map, MODULE_MODULES), Some(number), depth)?;
         self.declarations(
             list,
             end,

@@ -8,6 +8,26 @@ use crate::cursor::stands;
 use crate::expression::Expression;
 use crate::fault::Layout;
 use crate::findings::Findings;
+use crate::maps::ANNOTATION;
+use crate::maps::CLASS_ATTRIBUTES;
+use crate::maps::CLASS_BASES;
+use crate::maps::CLASS_DECORATORS;
+use crate::maps::CLASS_FIELDS;
+use crate::maps::CLASS_INNER;
+use crate::maps::CLASS_METHODS;
+use crate::maps::FUNCTION_DECORATORS;
+use crate::maps::FUNCTION_FIELDS;
+use crate::maps::FUNCTION_KEYWORD;
+use crate::maps::FUNCTION_KWARG;
+use crate::maps::FUNCTION_POSITIONAL;
+use crate::maps::FUNCTION_REGULAR;
+use crate::maps::FUNCTION_RETURNS;
+use crate::maps::FUNCTION_VARARG;
+use crate::maps::MODULE_ATTRIBUTES;
+use crate::maps::MODULE_CLASSES;
+use crate::maps::MODULE_FUNCTIONS;
+use crate::maps::VALUE;
+use crate::maps::VALUE_FIELDS;
 
 #[derive(Clone, Copy)]
 pub(crate) struct Reader<'a> {
@@ -112,8 +132,8 @@ impl<'a> Reader<'a> {
     fn pair(&mut self, end: usize, map: u16, depth: u8) -> Result<(), Layout>
         ensures { λ r. ⌜ Goes (now (self .exit) .at .rest .now) (now (self .exit) .found) r (auditPair end depth map (now (self .entry) .at .rest .now) (now (self .entry) .found)) ⌝ }
     {
-        self.optional(end, stands(map, 1), depth)?;
-        self.optional(end, stands(map, 2), depth)
+        self.optional(end, stands(map, VALUE), depth)?;
+        self.optional(end, stands(map, ANNOTATION), depth)
     }
 
     // An attribute; one whose map has no bit has neither a value nor an annotation.
@@ -121,7 +141,7 @@ impl<'a> Reader<'a> {
         ensures { λ r. ⌜ Goes (now (self .exit) .at .rest .now) (now (self .exit) .found) r (auditAttribute end depth (now (self .entry) .at .rest .now) (now (self .entry) .found)) ⌝ }
     {
         let place = self.at.place(end);
-        let map = self.at.fields(end, 4)?;
+        let map = self.at.fields(end, VALUE_FIELDS)?;
         self.name(end, place)?;
         self.found.attribute(place, map != 0);
         self.pair(end, map, depth)
@@ -132,7 +152,7 @@ impl<'a> Reader<'a> {
         ensures { λ r. ⌜ Goes (now (self .exit) .at .rest .now) (now (self .exit) .found) r (auditArgument end depth (now (self .entry) .at .rest .now) (now (self .entry) .found)) ⌝ }
     {
         let place = self.at.place(end);
-        let map = self.at.fields(end, 4)?;
+        let map = self.at.fields(end, VALUE_FIELDS)?;
         self.name(end, place)?;
         self.pair(end, map, depth)
     }
@@ -147,7 +167,7 @@ impl<'a> Reader<'a> {
         let place = self.at.place(end);
         let map = self.at.star_fields(end)?;
         self.name(end, place)?;
-        self.optional(end, stands(map, 2), depth)
+        self.optional(end, stands(map, ANNOTATION), depth)
     }
 
     // A list field of arguments, where it stands.
@@ -168,12 +188,12 @@ impl<'a> Reader<'a> {
     fn parameters(&mut self, end: usize, map: u16, depth: u8) -> Result<(), Layout>
         ensures { λ r. ⌜ Goes (now (self .exit) .at .rest .now) (now (self .exit) .found) r (auditParameters end depth map (now (self .entry) .at .rest .now) (now (self .entry) .found)) ⌝ }
     {
-        self.arguments(end, stands(map, 2), depth)?;
-        self.arguments(end, stands(map, 4), depth)?;
-        self.star(end, stands(map, 8), depth)?;
-        self.arguments(end, stands(map, 16), depth)?;
-        self.star(end, stands(map, 32), depth)?;
-        self.optional(end, stands(map, 64), depth)
+        self.arguments(end, stands(map, FUNCTION_POSITIONAL), depth)?;
+        self.arguments(end, stands(map, FUNCTION_REGULAR), depth)?;
+        self.star(end, stands(map, FUNCTION_VARARG), depth)?;
+        self.arguments(end, stands(map, FUNCTION_KEYWORD), depth)?;
+        self.star(end, stands(map, FUNCTION_KWARG), depth)?;
+        self.optional(end, stands(map, FUNCTION_RETURNS), depth)
     }
 
     // A function or a method.
@@ -181,9 +201,9 @@ impl<'a> Reader<'a> {
         ensures { λ r. ⌜ Goes (now (self .exit) .at .rest .now) (now (self .exit) .found) r (auditFunction end depth (now (self .entry) .at .rest .now) (now (self .entry) .found)) ⌝ }
     {
         let place = self.at.place(end);
-        let map = self.at.fields(end, 128)?;
+        let map = self.at.fields(end, FUNCTION_FIELDS)?;
         self.name(end, place)?;
-        self.expressions(end, stands(map, 1), depth)?;
+        self.expressions(end, stands(map, FUNCTION_DECORATORS), depth)?;
         self.parameters(end, map, depth)
     }
 
@@ -219,10 +239,10 @@ impl<'a> Reader<'a> {
     fn members(&mut self, end: usize, map: u16, depth: u8) -> Result<(), Layout>
         ensures { λ r. ⌜ Goes (now (self .exit) .at .rest .now) (now (self .exit) .found) r (auditMembers end depth map (now (self .entry) .at .rest .now) (now (self .entry) .found)) ⌝ }
     {
-        self.expressions(end, stands(map, 1), depth)?;
-        self.functions(end, stands(map, 2), depth)?;
-        self.attributes(end, stands(map, 4), depth)?;
-        self.expressions(end, stands(map, 8), depth)
+        self.expressions(end, stands(map, CLASS_BASES), depth)?;
+        self.functions(end, stands(map, CLASS_METHODS), depth)?;
+        self.attributes(end, stands(map, CLASS_ATTRIBUTES), depth)?;
+        self.expressions(end, stands(map, CLASS_DECORATORS), depth)
     }
 
     // A class.
@@ -241,10 +261,10 @@ impl<'a> Reader<'a> {
         ensures { λ r. ⌜ Goes (now (self .exit) .at .rest .now) (now (self .exit) .found) r (auditClassOver end depth (auditClass end depth) (now (self .entry) .at .rest .now) (now (self .entry) .found)) ⌝ }
     {
         let place = self.at.place(end);
-        let map = self.at.fields(end, 32)?;
+        let map = self.at.fields(end, CLASS_FIELDS)?;
         self.name(end, place)?;
         self.members(end, map, depth)?;
-        self.classes(end, stands(map, 16), depth)
+        self.classes(end, stands(map, CLASS_INNER), depth)
     }
 
     // A list field of classes, where it stands.
@@ -265,8 +285,8 @@ impl<'a> Reader<'a> {
     pub(crate) fn own(&mut self, end: usize, map: u16, depth: u8) -> Result<(), Layout>
         ensures { λ r. ⌜ Goes (now (self .exit) .at .rest .now) (now (self .exit) .found) r (auditOwn end depth map (now (self .entry) .at .rest .now) (now (self .entry) .found)) ⌝ }
     {
-        self.classes(end, stands(map, 2), depth)?;
-        self.functions(end, stands(map, 4), depth)?;
-        self.attributes(end, stands(map, 8), depth)
+        self.classes(end, stands(map, MODULE_CLASSES), depth)?;
+        self.functions(end, stands(map, MODULE_FUNCTIONS), depth)?;
+        self.attributes(end, stands(map, MODULE_ATTRIBUTES), depth)
     }
 }

@@ -14,6 +14,9 @@ use crate::walker::Walker;
 use model::Declared;
 use model::File;
 use model::Use;
+use model::maps::MODULE_ATTRIBUTES;
+use model::maps::MODULE_CLASSES;
+use model::maps::MODULE_FUNCTIONS;
 use std::alloc::AllocError;
 use std::alloc::Global;
 
@@ -96,9 +99,27 @@ pub fn collect<'a>(heap: Global, model: &'a [u8], file: File) -> Result<Collecte
         at: Cursor::at(model, file.own),
         uses: Vec::new(heap),
     };
-    own_classes(&mut walker, &mut declared, end, stands(map, 2), DEEPEST)?;
-    own_functions(&mut walker, &mut declared, end, stands(map, 4), DEEPEST)?;
-    own_attributes(&mut walker, &mut declared, end, stands(map, 8), DEEPEST)?;
+    own_classes(
+        &mut walker,
+        &mut declared,
+        end,
+        stands(map, MODULE_CLASSES),
+        DEEPEST,
+    )?;
+    own_functions(
+        &mut walker,
+        &mut declared,
+        end,
+        stands(map, MODULE_FUNCTIONS),
+        DEEPEST,
+    )?;
+    own_attributes(
+        &mut walker,
+        &mut declared,
+        end,
+        stands(map, MODULE_ATTRIBUTES),
+        DEEPEST,
+    )?;
     Ok(Collected {
         declared,
         uses: walker.uses,

@@ -11,6 +11,20 @@ use crate::cursor::stands;
 use model::Declared;
 use model::Expression;
 use model::Use;
+use model::maps::ANNOTATION;
+use model::maps::CLASS_ATTRIBUTES;
+use model::maps::CLASS_BASES;
+use model::maps::CLASS_DECORATORS;
+use model::maps::CLASS_INNER;
+use model::maps::CLASS_METHODS;
+use model::maps::FUNCTION_DECORATORS;
+use model::maps::FUNCTION_KEYWORD;
+use model::maps::FUNCTION_KWARG;
+use model::maps::FUNCTION_POSITIONAL;
+use model::maps::FUNCTION_REGULAR;
+use model::maps::FUNCTION_RETURNS;
+use model::maps::FUNCTION_VARARG;
+use model::maps::VALUE;
 use std::alloc::AllocError;
 
 #[derive(Drop)]
@@ -113,8 +127,8 @@ impl<'a> Walker<'a> {
     fn walk_pair(&mut self, end: usize, map: u16, depth: u8) -> Result<(), AllocError>
         ensures { λ r. ⌜ made r (λ _. Walks pairPut (pairAt end depth map) (now (self .entry)) (now (self .exit))) ⌝ }
     {
-        self.walk_value(end, stands(map, 1), depth)?;
-        self.walk_annotation(end, stands(map, 2), depth)
+        self.walk_value(end, stands(map, VALUE), depth)?;
+        self.walk_annotation(end, stands(map, ANNOTATION), depth)
     }
 
     fn walk_argument(&mut self, end: usize, depth: u8) -> Result<(), AllocError>
@@ -144,7 +158,7 @@ impl<'a> Walker<'a> {
         }
         let map = self.at.number();
         self.at.text();
-        self.walk_annotation(end, stands(map, 2), depth)
+        self.walk_annotation(end, stands(map, ANNOTATION), depth)
     }
 
     // A function or a method.
@@ -158,13 +172,13 @@ impl<'a> Walker<'a> {
         let place = self.at.place(end);
         let map = self.at.number();
         let name = self.at.text();
-        self.walk_exprs(end, stands(map, 1), depth)?;
-        self.walk_arguments(end, stands(map, 2), depth)?;
-        self.walk_arguments(end, stands(map, 4), depth)?;
-        self.walk_star(end, stands(map, 8), depth)?;
-        self.walk_arguments(end, stands(map, 16), depth)?;
-        self.walk_star(end, stands(map, 32), depth)?;
-        self.walk_annotation(end, stands(map, 64), depth)?;
+        self.walk_exprs(end, stands(map, FUNCTION_DECORATORS), depth)?;
+        self.walk_arguments(end, stands(map, FUNCTION_POSITIONAL), depth)?;
+        self.walk_arguments(end, stands(map, FUNCTION_REGULAR), depth)?;
+        self.walk_star(end, stands(map, FUNCTION_VARARG), depth)?;
+        self.walk_arguments(end, stands(map, FUNCTION_KEYWORD), depth)?;
+        self.walk_star(end, stands(map, FUNCTION_KWARG), depth)?;
+        self.walk_annotation(end, stands(map, FUNCTION_RETURNS), depth)?;
         Ok(Declared { place, name })
     }
 
@@ -221,11 +235,11 @@ impl<'a> Walker<'a> {
         let place = self.at.place(end);
         let map = self.at.number();
         let name = self.at.text();
-        self.walk_exprs(end, stands(map, 1), depth)?;
-        self.walk_methods(end, stands(map, 2), depth)?;
-        self.walk_attributes(end, stands(map, 4), depth)?;
-        self.walk_exprs(end, stands(map, 8), depth)?;
-        self.walk_classes(end, stands(map, 16), depth)?;
+        self.walk_exprs(end, stands(map, CLASS_BASES), depth)?;
+        self.walk_methods(end, stands(map, CLASS_METHODS), depth)?;
+        self.walk_attributes(end, stands(map, CLASS_ATTRIBUTES), depth)?;
+        self.walk_exprs(end, stands(map, CLASS_DECORATORS), depth)?;
+        self.walk_classes(end, stands(map, CLASS_INNER), depth)?;
         Ok(Declared { place, name })
     }
 
