@@ -1,0 +1,4 @@
+pub mod Appends
+pub mod Fronts
+pub mod Proposed
+pub mod Values
