@@ -1,0 +1,4 @@
+pub mod Names
+pub mod Ends
+pub mod Leads
+pub mod Steps
