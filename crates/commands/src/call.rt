@@ -10,7 +10,7 @@ pub enum Call<'a> {
 }
 
 // The call of a line, which has no newline.
-pub fn call_of(line: &[u8]) -> Call<'_>
+pub(crate) fn call_of(line: &[u8]) -> Call<'_>
     ensures { λ r. ⌜ Means (now (line .entry)) r ⌝ }
 {
     if line == b"load" {

@@ -36,7 +36,7 @@ impl fmt::Display for Verdict as VerdictDisplay {
 }
 
 // Whether each file got an answer. None keeps those behind it from being checked.
-pub fn files(rt: &LibcRuntime, names: Args) -> io::Result<bool> {
+pub(crate) fn files(rt: &LibcRuntime, names: Args) -> io::Result<bool> {
     let mut all = true;
     for name in names {
         if !file(rt, name.as_str())? {

@@ -9,7 +9,7 @@ use std::alloc::AllocError;
 use std::alloc::Global;
 
 // The bytes that the text writes; none where it is no row of pairs of digits.
-pub fn unhex(heap: Global, text: &[u8]) -> Result<Option<Vec<u8>>, AllocError>
+pub(crate) fn unhex(heap: Global, text: &[u8]) -> Result<Option<Vec<u8>>, AllocError>
     ensures { λ r. ⌜ made r (λ o. mapped vec-items o ≡ hexBytes (now (text .entry))) ⌝ }
 {
     let mut bytes = Vec::new(heap);

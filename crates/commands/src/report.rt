@@ -36,7 +36,7 @@ pub impl fmt::Display for Failure as FailureDisplay {
 }
 
 // What a refusal's number means.
-pub fn cause(number: u8) -> &'static str
+pub(crate) fn cause(number: u8) -> &'static str
     ensures { λ r. ⌜ now r ≡ causeText number ⌝ }
 {
     match number {

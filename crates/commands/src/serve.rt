@@ -42,7 +42,7 @@ impl fmt::Display for Answer as AnswerDisplay {
 }
 
 // Answers every line, in one session. It is done at the end of the input.
-pub fn session(rt: &LibcRuntime) -> io::Result<bool> {
+pub(crate) fn session(rt: &LibcRuntime) -> io::Result<bool> {
     let heap = rt.alloc();
     let mut session = Session::new(heap);
     let mut input = BufReader::new(rt.stdin());
