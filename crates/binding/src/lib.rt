@@ -1,4 +1,6 @@
 // The names that a file binds: its declared names first, and then a name for each reference.
+#![tactic(auto)]
+
 mod bind;
 mod binder;
 mod laws;

@@ -1,5 +1,7 @@
 //! The names of the modules that a model's files stand for, and the bases that their imports count from.
 
+#![tactic(auto)]
+
 mod base;
 mod laws;
 mod modules;

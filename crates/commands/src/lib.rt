@@ -1,4 +1,6 @@
 // All that the program does: its command line, and the two commands.
+#![tactic(auto)]
+
 ghost use Rattle.commands.specs.Words.{Asks};
 
 mod call;

@@ -1,4 +1,6 @@
 // The text of expressions.
+#![tactic(auto)]
+
 mod laws;
 
 pub use laws::worked_cases;

@@ -1,5 +1,7 @@
 //! The lines by which a file imports what its names are bound to.
 
+#![tactic(auto)]
+
 mod laws;
 mod lines;
 

@@ -1,4 +1,6 @@
 // The least place in a list of entries at which a key comes again, or at which one key too many has come.
+#![tactic(auto)]
+
 ghost use Rattle.std.specs.Prelude.{◌≡◌, map, IfOk};
 ghost use Rattle.model.specs.Rules.{least};
 ghost use Rattle.model.specs.Limits.{repeated_siblings, surplus_uses, surplus_declared_of};

@@ -1,4 +1,6 @@
 // The packed format of a model: its cursor, its reader, and the laws of the format.
+#![tactic(auto)]
+
 mod cursor;
 mod expression;
 mod fault;

@@ -1,4 +1,6 @@
 // The name that follows a name, by which a name that is taken gives way to others.
+#![tactic(auto)]
+
 mod laws;
 mod next;
 

@@ -1,5 +1,7 @@
 //! The paths by which the modules of a package import each other.
 
+#![tactic(auto)]
+
 mod laws;
 mod relative;
 

@@ -1,5 +1,7 @@
 //! What a file refers to: each reference once, in order, and where.
 
+#![tactic(auto)]
+
 mod laws;
 mod places;
 mod reference;

@@ -1,4 +1,6 @@
 // The resolver: what every reference of a file is called in it.
+#![tactic(auto)]
+
 mod fault;
 mod names;
 

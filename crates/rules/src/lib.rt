@@ -1,4 +1,6 @@
 // The rules on a model, and what is proved of them.
+#![tactic(auto)]
+
 ghost use Rattle.rules.specs.Meets.{LoadsExactly};
 ghost use Rattle.rules.specs.Refusals.{RefusesFirst};
 ghost use Rattle.rules.specs.Cases.{CasesHold, table};

@@ -1,4 +1,6 @@
 // A session: it loads a packed model and answers what it holds.
+#![tactic(auto)]
+
 mod calls;
 mod fault;
 mod local;

@@ -1,5 +1,7 @@
 //! Sinks: what takes lines, and which lines it takes.
 
+#![tactic(auto)]
+
 mod buffer;
 mod buffering;
 mod compare;

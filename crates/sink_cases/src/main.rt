@@ -1,6 +1,8 @@
 //! Offers lines to both sinks, lent, and prints a line for each case: every line offered, whether it was taken and how
 //! many are then, and what the sink holds at the end.
 
+#![tactic(auto)]
+
 use sink::{BufferSink, ComparingSink, Sink, offer_all};
 use std::io;
 use std::str::from_utf8;

@@ -58,7 +58,7 @@ natural-Decides (b ∷ bs) =
     alone t (inr p) = let f : p.first ≡ b = cc p.is in absurd (omega (arith, p.not-zero, eqb-true b 48 t))
 
     positive : eqb b 48 ≡ false → All Digit (b ∷ bs) → Positive (b ∷ bs)
-    positive t h = let ne : b ≡ 48 → ⊥ = eqb-false b 48 t in record { first = b; more = bs; is = refl; not-zero = (omega (arith, h.0), h.0.1); all = h.1 }
+    positive t h = let ne : b ≡ 48 → ⊥ = eqb-false b 48 t in record { first = b; more = bs; is = refl; not-zero = (omega (arith, h.0), h.0.1); all = h }
 
     each : eqb b 48 ≡ false → (b ∷ bs ≡ 48 ∷ []) ⊎ Positive (b ∷ bs) → All Digit (b ∷ bs)
     each t (inl e) = let f : b ≡ 48 = cc e in absurd (eqb-false b 48 t f)

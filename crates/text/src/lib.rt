@@ -1,5 +1,7 @@
 //! The rules on bytes by which a stub file for Python is written: names, numbers and UTF-8.
 
+#![tactic(auto)]
+
 mod names;
 mod numbers;
 mod utf8;

@@ -1,4 +1,6 @@
 // The walk over a model whose layout is checked: nothing is checked again, and no step owes a proof that it can be taken.
+#![tactic(auto)]
+
 mod collector;
 mod cursor;
 mod headers;

@@ -8,7 +8,7 @@ returns-then-is-same c =
 
 pub loop-word-preserved : goal.loop-word-preserved
 loop-word-preserved c =
-    c.loop-word.invariant ∙ among-more c.args.words.now c.args.s.now c.loop-word.word-index _ c.loop-word-test.true c.if-is-same.ensures
+    c.loop-word.invariant ∙ among-more c.args.words.now c.args.s.now c.loop-word.word-index _ c.loop-word-test.true c.if-is_same.ensures
 
 pub returns : goal.returns
 returns c = sym (c.loop-word.invariant ∙ among-all c.args.words.now c.args.s.now c.loop-word.word-index c.loop-word-test.false)

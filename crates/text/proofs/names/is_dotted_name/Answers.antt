@@ -12,6 +12,6 @@ returns-then-s-gt-LONGEST-DOTTED-NAME c =
 
 pub returns : goal.returns
 returns c =
-    let v : c.joins-identifiers.result ≡ dotted c.args.s.now =
-    c.joins-identifiers.ensures ∙ dotted-rest c.args.s.now (omega arith) in
+    let v : c.joins_identifiers.result ≡ dotted c.args.s.now =
+    c.joins_identifiers.ensures ∙ dotted-rest c.args.s.now (omega arith) in
     record { value = v; decides = Decides-at _ _ v (dotted-Decides c.args.s.now) }

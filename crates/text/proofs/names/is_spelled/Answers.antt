@@ -7,7 +7,7 @@ returns-then-not-is-name-byte c =
 
 pub loop-i-preserved : goal.loop-i-preserved
 loop-i-preserved c =
-    λ _. spelled-more c.args.s.now c.loop-i.i c.loop-i-test.true c.loop-i.invariant c.if-not-is-name-byte.ensures
+    λ _. spelled-more c.args.s.now c.loop-i.i c.loop-i-test.true c.loop-i.invariant c.if-not-is_name_byte.ensures
 
 pub returns : goal.returns
-returns c = spelled-all c.args.s.now c.loop-i.i c.loop-i-test.false c.loop-i.invariant c.is-empty.result c.is-empty.ensures
+returns c = spelled-all c.args.s.now c.loop-i.i c.loop-i-test.false c.loop-i.invariant c.is_empty.result c.is_empty.ensures

@@ -8,11 +8,11 @@ returns-then-not-is-identifier c =
 
 pub returns-then-dot-rest : goal.returns-then-dot-rest
 returns-then-dot-rest c =
-    parts_ends c.loop-rest.rest.now c.dot-at-dot.result c.dot-at-dot.ensures.value c.if-dot-rest.true c.if-not-is-identifier.ensures.value
+    parts_ends c.loop-rest.rest.now c.dot_at-dot.result c.dot_at-dot.ensures.value c.if-dot-rest.true c.if-not-is_identifier.ensures.value
     ∙ sym c.loop-rest.invariant
 
 pub loop-rest-preserved : goal.loop-rest-preserved
 loop-rest-preserved c =
-    let l : c.dot-at-dot.result < length c.loop-rest.rest.now = omega arith in
+    let l : c.dot_at-dot.result < length c.loop-rest.rest.now = omega arith in
     c.loop-rest.invariant
-    ∙ parts_more c.loop-rest.rest.now c.dot-at-dot.result c.dot-at-dot.ensures.value l c.if-not-is-identifier.ensures.value
+    ∙ parts_more c.loop-rest.rest.now c.dot_at-dot.result c.dot_at-dot.ensures.value l c.if-not-is_identifier.ensures.value

@@ -9,7 +9,7 @@ returns-then-not-is-digit c =
     sym (c.loop-b.invariant ∙ every_fails digit c.args.s.now c.loop-b.b-index c.loop-b-test.true c.if-not-is-digit.ensures)
 
 pub loop-b-preserved : goal.loop-b-preserved
-loop-b-preserved c = c.loop-b.invariant ∙ every_more digit c.args.s.now c.loop-b.b-index c.loop-b-test.true c.if-not-is-digit.ensures
+loop-b-preserved c = c.loop-b.invariant ∙ every_more digit c.args.s.now c.loop-b.b-index c.loop-b-test.true c.if-not-is_digit.ensures
 
 pub returns : goal.returns
 returns c = sym (c.loop-b.invariant ∙ at_drop_all (every digit) c.args.s.now c.loop-b.b-index c.loop-b-test.false)

@@ -9,8 +9,8 @@ pub returns-then-dot-magnitude : goal.returns-then-dot-magnitude
 unfolding float
 returns-then-dot-magnitude c =
     let v : false ≡ float c.args.s.now =
-    fractional-none c.after-sign-magnitude.result.now c.dot-at-dot.result c.dot-at-dot.ensures.value c.if-dot-magnitude.true
-    ∙ ap fractional c.after-sign-magnitude.ensures in
+    fractional-none c.after_sign-magnitude.result.now c.dot_at-dot.result c.dot_at-dot.ensures.value c.if-dot-magnitude.true
+    ∙ ap fractional c.after_sign-magnitude.ensures in
     record { value = v; decides = Decides-at _ _ v (float-Decides c.args.s.now) }
 
 pub returns-then-are-some-digits : goal.returns-then-are-some-digits

@@ -8,10 +8,10 @@ use Rattle.text.proofs.numbers.is_int.Goals as goal
 pub returns-in-48 : goal.returns-in-48
 unfolding int
 returns-in-48 c =
-    let some : 0 < length c.after-sign-magnitude.result.now = search rules in
-    let zero : get_or c.after-sign-magnitude.result.now 0 0 ≡ 48 = search rules in
-    let v : c.is-empty.result ≡ int c.args.s.now =
-    c.is-empty.ensures ∙ (natural-zero c.after-sign-magnitude.result.now some zero ∙ ap natural c.after-sign-magnitude.ensures) in
+    let some : 0 < length c.after_sign-magnitude.result.now = search rules in
+    let zero : get_or c.after_sign-magnitude.result.now 0 0 ≡ 48 = search rules in
+    let v : c.is_empty.result ≡ int c.args.s.now =
+    c.is_empty.ensures ∙ (natural-zero c.after_sign-magnitude.result.now some zero ∙ ap natural c.after_sign-magnitude.ensures) in
     record { value = v; decides = Decides-at _ _ v (int-Decides c.args.s.now) }
 
 pub returns-in-default : goal.returns-in-default

@@ -4,7 +4,7 @@ use Rattle.text.specs.Utf8.{utf8}
 use Rattle.text.proofs.Steps.{tail_fails, tail_more, lead_fails, lead-more, completes-all}
 use Rattle.text.proofs.Utf8Decided.{utf8-Decides}
 use Rattle.text.proofs.utf8.is_utf8.Goals as goal
-use Rattle.text.proofs.utf8.is_utf8.Goals.{then-lacking-gt0+else-not-is-within, else-lacking-gt0+else-not-is-lead}
+use Rattle.text.proofs.utf8.is_utf8.Goals.{then-lacking-gt0+else-not-is_within, else-lacking-gt0+else-not-is_lead}
 
 pub returns-then-not-is-within : goal.returns-then-not-is-within
 unfolding utf8
@@ -23,10 +23,10 @@ returns-then-not-is-lead c =
 pub loop-b-preserved : goal.loop-b-preserved
 loop-b-preserved c =
     elim c.if-lacking-gt0.branch [
-      | then-lacking-gt0+else-not-is-within w ↦
-          (let e = tail_more c.args.s.now c.loop-b.b-index c.loop-b.lacking c.loop-b.low c.loop-b.high c.loop-b-test.true w.if-lacking-gt0.true w.if-not-is-within.ensures in
+      | then-lacking-gt0+else-not-is_within w ↦
+          (let e = tail_more c.args.s.now c.loop-b.b-index c.loop-b.lacking c.loop-b.low c.loop-b.high c.loop-b-test.true w.if-lacking-gt0.true w.if-not-is_within.ensures in
           c.loop-b.invariant ∙ cc (e, w.lacking-is, w.low-is, w.high-is))
-      | else-lacking-gt0+else-not-is-lead w ↦
+      | else-lacking-gt0+else-not-is_lead w ↦
           (let e = lead-more c.args.s.now c.loop-b.b-index c.loop-b.lacking c.loop-b.low c.loop-b.high c.loop-b-test.true w.if-lacking-gt0.false w.if-not-is-lead.ensures in
           c.loop-b.invariant ∙ cc (e, w.lacking-is, w.low-is, w.high-is, w.tails-of-lacking.ensures, w.lowest-after-low.ensures, w.highest-after-high.ensures))
     ]
