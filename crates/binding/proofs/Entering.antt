@@ -1,5 +1,6 @@
 -- One binding more, in the list of bindings and in the indexes.
-use Rattle.std.proofs.Common.{◌≡◌, ℕ, zero, suc, ◌+◌, ◌-◌, ◌<◌, ◌≤◌, Bool, true, false, cond, not, ◌||◌, eqb, List, [], ◌∷◌, ◌++◌, map, length, take, drop, is_some, IfSome, Some, None, vec_items, All, Option, Vec, sym, refl, ap, ◌∙◌, subst, arith, length-append, Bor, MutBor}
+use Rattle.std.proofs.Common.{◌≡◌, ℕ, zero, suc, ◌+◌, ◌-◌, ◌<◌, ◌≤◌, Bool, true, false, cond, not, ◌||◌, eqb, List, [], ◌∷◌, ◌++◌, map, length, take, drop, is_some, IfSome, Some, None, vec_items, Option, Vec, sym, refl, ap, ◌∙◌, subst, arith, length-append, Bor, MutBor}
+use Rattle.std.specs.List.{AllByRecursion}
 use Rattle.std.specs.declared.alloc.Global.{Global}
 use Rattle.std.proofs.lemmas.Bool.{or_right, eqb-true, eqb-false}
 use Rattle.naming.specs.Next.{proposal}
@@ -40,13 +41,13 @@ pub pool-grows : (pool more : List ℕ) → Grows pool (pool ++ more)
 pool-grows pool more (Model s) h = (refl, tt)
 pool-grows pool more (Alias p) h = (cut-grown p.start p.len pool more h, omega (arith, length-append pool more))
 
-bindings-grown : (pool after : List ℕ) → Grows pool after → (es : List Entry) → All (λ e. Within (length pool) e.name) es → bindings_of after es ≡ bindings_of pool es
+bindings-grown : (pool after : List ℕ) → Grows pool after → (es : List Entry) → AllByRecursion (λ e. Within (length pool) e.name) es → bindings_of after es ≡ bindings_of pool es
 bindings-grown pool after g [] h = refl
 bindings-grown pool after g (e ∷ es) h =
     λ i. binding ((g e.name h.0).0 i) (e.from.now, e.root.now) ∷ bindings-grown pool after g es h.1 i
 
-within_grown : (pool after : List ℕ) → Grows pool after → (es : List Entry) → All (λ e. Within (length pool) e.name) es → (e : Entry) → Within (length after) e.name
-    → All (λ e. Within (length after) e.name) (es ++ e ∷ [])
+within_grown : (pool after : List ℕ) → Grows pool after → (es : List Entry) → AllByRecursion (λ e. Within (length pool) e.name) es → (e : Entry) → Within (length after) e.name
+    → AllByRecursion (λ e. Within (length after) e.name) (es ++ e ∷ [])
 within_grown pool after g [] h e k = (k, tt)
 within_grown pool after g (x ∷ es) h e k = ((g x.name h.0).1, within_grown pool after g es h.1 e k)
 
@@ -132,7 +133,7 @@ module _ (s s' : Binder) (t : ReferenceOf) (n : Name) (w : Text) (grows : Grows 
       record {
         bindings = more;
         indexed = record {
-          within = subst (λ es. All (λ e. Within (length (pool_of s')) e.name) es) (sym listed) (within_grown (pool_of s) (pool_of s') grows (vec_items s.entries) x.within e lies);
+          within = subst (λ es. AllByRecursion (λ e. Within (length (pool_of s')) e.name) es) (sym listed) (within_grown (pool_of s) (pool_of s') grows (vec_items s.entries) x.within e lies);
           targets = (put by_texts x.targets).0;
           finds = finds-more put more;
           names = on;

@@ -1,11 +1,12 @@
 -- Different things that all lie in a list are at most as many as the list has.
-use Rattle.std.proofs.Common.{◌≡◌, ℕ, suc, ◌≤◌, ◌⊎◌, List, [], ◌∷◌, length, All, sym, refl, ap, ◌∙◌, inl, inr, zero-le, arith}
+use Rattle.std.proofs.Common.{◌≡◌, ℕ, suc, ◌≤◌, ◌⊎◌, List, [], ◌∷◌, length, sym, refl, ap, ◌∙◌, inl, inr, zero-le, arith}
+use Rattle.std.specs.List.{AllByRecursion}
 use Rattle.binding.specs.Laws.{Member}
 
 module _ {A : Type 0} where
   abbrev pub Apart : List A → Type 0
   Apart [] = Unit {0}
-  Apart (x ∷ xs) = All (λ y. y ≡ x → ⊥) xs × Apart xs
+  Apart (x ∷ xs) = AllByRecursion (λ y. y ≡ x → ⊥) xs × Apart xs
 
   removed : (x : A) (ys : List A) → Member x ys → List A
   removed x [] m = absurd m
@@ -26,11 +27,11 @@ module _ {A : Type 0} where
   kept x (y ∷ ys) (inr m) z ne (inl d) = inl d
   kept x (y ∷ ys) (inr m) z ne (inr h) = inr (kept x ys m z ne h)
 
-  all_kept : (x : A) (ys : List A) (m : Member x ys) (zs : List A) → All (λ z. z ≡ x → ⊥) zs → All (λ z. Member z ys) zs → All (λ z. Member z (removed x ys m)) zs
+  all_kept : (x : A) (ys : List A) (m : Member x ys) (zs : List A) → AllByRecursion (λ z. z ≡ x → ⊥) zs → AllByRecursion (λ z. Member z ys) zs → AllByRecursion (λ z. Member z (removed x ys m)) zs
   all_kept x ys m [] ne h = tt
   all_kept x ys m (z ∷ zs) ne h = (kept x ys m z ne.0 h.0, all_kept x ys m zs ne.1 h.1)
 
-  pub pigeons : (xs ys : List A) → Apart xs → All (λ x. Member x ys) xs → length xs ≤ length ys
+  pub pigeons : (xs ys : List A) → Apart xs → AllByRecursion (λ x. Member x ys) xs → length xs ≤ length ys
   pigeons [] ys d h = omega arith
   pigeons (x ∷ xs) ys d h =
       let m = h.0 in

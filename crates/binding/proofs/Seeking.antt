@@ -1,5 +1,6 @@
 -- The search for a name finds the lowest proposal that fits, and fails only where proposals come to an end.
-use Rattle.std.proofs.Common.{◌≡◌, ℕ, zero, suc, ◌+◌, ◌<◌, ◌≤◌, Bool, true, false, cond, eqb, ◌⊎◌, List, [], ◌∷◌, map, length, Some, None, All, Option, sym, refl, ap, ◌∙◌, subst, inl, inr, arith, MatchOption}
+use Rattle.std.proofs.Common.{◌≡◌, ℕ, zero, suc, ◌+◌, ◌<◌, ◌≤◌, Bool, true, false, cond, eqb, ◌⊎◌, List, [], ◌∷◌, map, length, Some, None, Option, sym, refl, ap, ◌∙◌, subst, inl, inr, arith, MatchOption}
+use Rattle.std.specs.List.{AllByRecursion}
 use lib.ListN.{length-map}
 use Rattle.std.proofs.lemmas.Bool.{eqb-true, eqb-false, false≢true}
 use Rattle.model.specs.Tree.{Text}
@@ -37,15 +38,15 @@ module _ (propose : Proposals) (b : List Binding) (t : Target) where
   record Upto (k : ℕ) : Type 0 where
     names : List Text
     many : length names ≡ k
-    from : All (λ x. (i : ℕ) × (i < k) × (propose t i ≡ Some x)) names
-    among : All (λ x. Member x (map (λ e. e.name) b)) names
+    from : AllByRecursion (λ x. (i : ℕ) × (i < k) × (propose t i ≡ Some x)) names
+    among : AllByRecursion (λ x. Member x (map (λ e. e.name) b)) names
     apart : Apart names
 
-  later : (k : ℕ) (xs : List Text) → All (λ x. (i : ℕ) × (i < k) × (propose t i ≡ Some x)) xs → All (λ x. (i : ℕ) × (i < suc k) × (propose t i ≡ Some x)) xs
+  later : (k : ℕ) (xs : List Text) → AllByRecursion (λ x. (i : ℕ) × (i < k) × (propose t i ≡ Some x)) xs → AllByRecursion (λ x. (i : ℕ) × (i < suc k) × (propose t i ≡ Some x)) xs
   later k [] h = tt
   later k (x ∷ xs) h = ((h.0.0, omega (arith, h.0.1), h.0.2), later k xs h.1)
 
-  differs : Proposes propose → (k : ℕ) (v : Text) → propose t k ≡ Some v → (xs : List Text) → All (λ x. (i : ℕ) × (i < k) × (propose t i ≡ Some x)) xs → All (λ y. y ≡ v → ⊥) xs
+  differs : Proposes propose → (k : ℕ) (v : Text) → propose t k ≡ Some v → (xs : List Text) → AllByRecursion (λ x. (i : ℕ) × (i < k) × (propose t i ≡ Some x)) xs → AllByRecursion (λ y. y ≡ v → ⊥) xs
   differs p k v is [] h = tt
   differs p k v is (x ∷ xs) h =
       (λ e. let j : h.0.0 ≡ k = p.differ t h.0.0 k v (h.0.2 ∙ ap Some e) is in omega (arith, h.0.1), differs p k v is xs h.1)

@@ -1,5 +1,6 @@
 -- What the names of a file tell, step by step.
-use Rattle.std.proofs.Common.{◌≡◌, ℕ, zero, suc, ◌<◌, Bool, true, false, cond, ◌||◌, ◌⊎◌, List, [], ◌∷◌, ◌++◌, map, is_some, Some, None, All, Option, sym, refl, ap, ◌∙◌, subst, inl, inr, arith, MatchOption}
+use Rattle.std.proofs.Common.{◌≡◌, ℕ, zero, suc, ◌<◌, Bool, true, false, cond, ◌||◌, ◌⊎◌, List, [], ◌∷◌, ◌++◌, map, is_some, Some, None, Option, sym, refl, ap, ◌∙◌, subst, inl, inr, arith, MatchOption}
+use Rattle.std.specs.List.{AllByRecursion}
 use Rattle.std.proofs.lemmas.Bool.{false≢true, or_right}
 use Rattle.model.specs.Tree.{Text}
 use Rattle.model.specs.Limits.{same_text_of, same_reference, occurs}
@@ -176,7 +177,7 @@ member_occurs d (x ∷ ds) h = go (same_text_of d x) refl (member_occurs d ds) h
     go true e more k = inl (text-is d x e)
     go false e more k = inr (more k)
 
-all_member : {A : Type 0} (P : A → Type 0) (xs : List A) (x : A) → All P xs → Member x xs → P x
+all_member : {A : Type 0} (P : A → Type 0) (xs : List A) (x : A) → AllByRecursion P xs → Member x xs → P x
 all_member P [] x a m = absurd m
 all_member P (y ∷ ys) x a (inl e) = subst P (sym e) a.0
 all_member P (y ∷ ys) x a (inr m) = all_member P ys x a.1 m
@@ -251,7 +252,7 @@ module _ (propose : Proposals) (p : Proposes propose) (own : Text) (ds : List Te
           go (inl k) = inl (found_declared own ds w t k)
           go (inr k) = inr k
 
-      shaped : All (λ d. spelled d ≡ true) ds → All (λ r. spelled (target_of r).1 ≡ true) rs → (w : Text) (t : Target) → find b w ≡ Some t → spelled w ≡ true
+      shaped : AllByRecursion (λ d. spelled d ≡ true) ds → AllByRecursion (λ r. spelled (target_of r).1 ≡ true) rs → (w : Text) (t : Target) → find b w ≡ Some t → spelled w ≡ true
       shaped as' ar w t h = go (only w t h)
         where
           go : (Member w ds × (t ≡ (own, w))) ⊎ ((r : Reference) × Member r rs × (target_of r ≡ t)) → spelled w ≡ true

@@ -1,5 +1,6 @@
 -- What holds of the names that are bound, whatever way names are proposed in.
-use Rattle.std.specs.Prelude.{◌≡◌, ℕ, ◌<◌, true, false, ◌⊎◌, List, [], ◌∷◌, ◌++◌, is_some, Some, None, All, Option, MatchOption}
+use Rattle.std.specs.Prelude.{◌≡◌, ℕ, ◌<◌, true, false, ◌⊎◌, List, [], ◌∷◌, ◌++◌, is_some, Some, None, Option, MatchOption}
+use Rattle.std.specs.List.{AllByRecursion}
 use Rattle.model.specs.Tree.{Text}
 use Rattle.text.specs.Names.{spelled}
 use Rattle.binding.specs.Binding.{Target, Binding, Proposals, by_number, find, name_of, fits, taken, target_of, take_all_of, bound, exhausted, declared_by}
@@ -64,7 +65,7 @@ pub record Tells (propose : Proposals) (own : Text) (ds : List Text) (rs : List 
   -- nothing else is bound
   pub only : (w : Text) (t : Target) → find b w ≡ Some t → (Member w ds × (t ≡ (own, w))) ⊎ ((r : Reference) × Member r rs × (target_of r ≡ t))
   -- names are spelled like identifiers where the declared ones and the roots are
-  pub shaped : All (λ d. spelled d ≡ true) ds → All (λ r. spelled (target_of r).1 ≡ true) rs → (w : Text) (t : Target) → find b w ≡ Some t → spelled w ≡ true
+  pub shaped : AllByRecursion (λ d. spelled d ≡ true) ds → AllByRecursion (λ r. spelled (target_of r).1 ≡ true) rs → (w : Text) (t : Target) → find b w ≡ Some t → spelled w ≡ true
 
 -- What it means that there is no name for a reference: those before it have names, and all proposals for it are taken.
 pub record RunsOut (propose : Proposals) (own : Text) (ds : List Text) (rs : List Reference) (r : Reference) : Type 0 where

@@ -1,5 +1,6 @@
 -- What the binder keeps true of its indexes, and what a step of it leaves.
-use Rattle.std.specs.Prelude.{◌≡◌, ℕ, zero, suc, ◌+◌, ◌<◌, ◌≤◌, Bool, true, not, ◌||◌, List, [], ◌∷◌, ◌++◌, map, length, is_some, IfSome, Some, None, vec_items, All, Option, Vec}
+use Rattle.std.specs.Prelude.{◌≡◌, ℕ, zero, suc, ◌+◌, ◌<◌, ◌≤◌, Bool, true, not, ◌||◌, List, [], ◌∷◌, ◌++◌, map, length, is_some, IfSome, Some, None, vec_items, Option, Vec}
+use Rattle.std.specs.List.{AllByRecursion}
 use Rattle.std.specs.declared.cmp.Ordering.{Ordering}
 use Rattle.std.specs.Borrow.{MutBor}
 use Rattle.std.specs.declared.alloc.Global.{Global}
@@ -68,7 +69,7 @@ pub record Started (pool : List ℕ) (b : List Binding) (root : Text) (l : Last)
   pub lies : Within (length pool) (Alias l.part)
 
 pub record Indexed (s : Binder) : Type 0 where
-  pub within : All (λ e. Within (length (pool_of s)) e.name) (vec_items s.entries)
+  pub within : AllByRecursion (λ e. Within (length (pool_of s)) e.name) (vec_items s.entries)
   pub targets : tree.IsOrdered by_texts s.targets
   pub finds : (q : ReferenceOf) → Shows (pool_of s) (tree.get by_texts s.targets q) (name_of (bindings_in s) (pair_of q))
   pub names : bag.IsOrdered by_bytes s.names

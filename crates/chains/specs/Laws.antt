@@ -1,5 +1,6 @@
 -- What the names and the bases are worth.
-use Rattle.std.specs.Prelude.{◌≡◌, ℕ, Bool, true, false, List, [], ◌∷◌, map, Some, None, codes, All, slice_index_or}
+use Rattle.std.specs.Prelude.{◌≡◌, ℕ, Bool, true, false, List, [], ◌∷◌, map, Some, None, codes, slice_index_or}
+use Rattle.std.specs.List.{AllByRecursion}
 use Rattle.model.specs.Tree.{Module}
 use Rattle.model.specs.Read.{read, model, deepest_allowed}
 use Rattle.model.specs.Laws.{Bytes}
@@ -28,15 +29,15 @@ python_base chain false = without_last chain
 
 -- the base, which is made from a text, has the parts that Python counts from, where there is a package to count from
 pub record BasesLead : Type 0 where
-  pub of_package : (p : List ℕ) (ps : List (List ℕ)) → All NoDot (p ∷ ps) → split (base_of (join (p ∷ ps)) true) ≡ p ∷ ps
-  pub of_plain : (p : List ℕ) (ps : List (List ℕ)) → All NoDot (p ∷ ps) → base_of (join (p ∷ ps)) false ≡ join (without_last (p ∷ ps))
-  pub parent : (p q : List ℕ) (qs : List (List ℕ)) → All NoDot (p ∷ (q ∷ qs)) → split (base_of (join (p ∷ (q ∷ qs))) false) ≡ without_last (p ∷ (q ∷ qs))
+  pub of_package : (p : List ℕ) (ps : List (List ℕ)) → AllByRecursion NoDot (p ∷ ps) → split (base_of (join (p ∷ ps)) true) ≡ p ∷ ps
+  pub of_plain : (p : List ℕ) (ps : List (List ℕ)) → AllByRecursion NoDot (p ∷ ps) → base_of (join (p ∷ ps)) false ≡ join (without_last (p ∷ ps))
+  pub parent : (p q : List ℕ) (qs : List (List ℕ)) → AllByRecursion NoDot (p ∷ (q ∷ qs)) → split (base_of (join (p ∷ (q ∷ qs))) false) ≡ without_last (p ∷ (q ∷ qs))
 
 -- So Python finds the target from the module by the text of the path that is written there. No chain has to be left out:
 -- from a plain root, which has no package to count from, the path is the target itself.
 abbrev pub ImportsResolve : Type 0
 ImportsResolve =
-    (chain : List (List ℕ)) → All NoDot chain → (is_package : Bool) (target : List ℕ) → All SomeByte (split target) →
+    (chain : List (List ℕ)) → AllByRecursion NoDot chain → (is_package : Bool) (target : List ℕ) → AllByRecursion SomeByte (split target) →
     resolve (python_base chain is_package) (read_path (relative_text (base_of (join chain) is_package) target)) ≡ Some (split target)
 
 -- how a module's import writes another module

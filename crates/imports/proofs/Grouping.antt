@@ -1,5 +1,6 @@
 -- Bindings in lines: none is lost, none is made up, and where the modules do not descend, no module has two lines.
-use Rattle.std.proofs.Common.{◌≡◌, ℕ, ◌+◌, ◌<◌, Bool, true, false, cond, ◌&&◌, ◌≢◌, List, [], ◌∷◌, ◌++◌, map, length, All, Ordering, Less, Equal, Greater, sym, refl, ap, ◌∙◌, subst, append_assoc, arith, length-append}
+use Rattle.std.proofs.Common.{◌≡◌, ℕ, ◌+◌, ◌<◌, Bool, true, false, cond, ◌&&◌, ◌≢◌, List, [], ◌∷◌, ◌++◌, map, length, Ordering, Less, Equal, Greater, sym, refl, ap, ◌∙◌, subst, append_assoc, arith, length-append}
+use Rattle.std.specs.List.{AllByRecursion}
 use Rattle.std.specs.Cmp.Lexicographic.{slice_cmp}
 use Rattle.std.specs.List.{AllByRecursion as Every}
 use Rattle.std.specs.List.Sorted.{IsStrictlySortedBy}
@@ -38,30 +39,30 @@ all-grouped (e ∷ b) = all-before (line_of e) (grouped b) ∙ ap (λ x. e ∷ x
 abbrev Filled : Line → Type 0
 Filled l = 0 < length l.imports
 
-some-before : (l : Line) (ls : List Line) → Filled l → All Filled ls → All Filled (before l ls)
+some-before : (l : Line) (ls : List Line) → Filled l → AllByRecursion Filled ls → AllByRecursion Filled (before l ls)
 some-before l [] here h = (here, tt)
 some-before l (k ∷ ks) here h = go (same_text_of l.from k.from)
   where
-    go : (c : Bool) → All Filled (cond c (line l.from (l.imports ++ k.imports) ∷ ks) (l ∷ k ∷ ks))
+    go : (c : Bool) → AllByRecursion Filled (cond c (line l.from (l.imports ++ k.imports) ∷ ks) (l ∷ k ∷ ks))
     go true = (omega (arith, length-append l.imports k.imports), h.1)
     go false = (here, h)
 
-pub some-grouped : (b : List Binding) → All Filled (grouped b)
+pub some-grouped : (b : List Binding) → AllByRecursion Filled (grouped b)
 some-grouped [] = tt
 some-grouped (e ∷ b) = some-before (line_of e) (grouped b) (omega arith) (some-grouped b)
 
 -- ---- the modules of the lines
 
 module _ (P : Text → Type 0) where
-  each-before : (l : Line) (ls : List Line) → P l.from → All (λ k. P k.from) ls → All (λ k. P k.from) (before l ls)
+  each-before : (l : Line) (ls : List Line) → P l.from → AllByRecursion (λ k. P k.from) ls → AllByRecursion (λ k. P k.from) (before l ls)
   each-before l [] here h = (here, tt)
   each-before l (k ∷ ks) here h = go (same_text_of l.from k.from)
     where
-      go : (c : Bool) → All (λ k. P k.from) (cond c (line l.from (l.imports ++ k.imports) ∷ ks) (l ∷ k ∷ ks))
+      go : (c : Bool) → AllByRecursion (λ k. P k.from) (cond c (line l.from (l.imports ++ k.imports) ∷ ks) (l ∷ k ∷ ks))
       go true = (here, h.1)
       go false = (here, h)
 
-  pub each-grouped : (b : List Binding) → All (λ e. P e.target.0) b → All (λ l. P l.from) (grouped b)
+  pub each-grouped : (b : List Binding) → AllByRecursion (λ e. P e.target.0) b → AllByRecursion (λ l. P l.from) (grouped b)
   each-grouped [] h = tt
   each-grouped (e ∷ b) h = each-before (line_of e) (grouped b) h.0 (each-grouped b h.1)
 
@@ -71,7 +72,7 @@ NotAbove x y = slice_cmp nat_cmp x y ≡ Greater → ⊥
 -- no module is above one after it
 abbrev pub Rising : List Binding → Type 0
 Rising [] = Unit {0}
-Rising (e ∷ b) = All (λ k. NotAbove e.target.0 k.target.0) b × Rising b
+Rising (e ∷ b) = AllByRecursion (λ k. NotAbove e.target.0 k.target.0) b × Rising b
 
 abbrev modules : List Line → List Text
 modules ls = map (λ l. l.from) ls
@@ -80,7 +81,7 @@ every-below : (x y : Text) (zs : List Text) → slice_cmp nat_cmp x y ≡ Less �
 every-below x y [] less h = tt
 every-below x y (z ∷ zs) less h = (below_through x y z less h.0, every-below x y zs less h.1)
 
-sorted_before : (l : Line) (ls : List Line) → All (λ k. NotAbove l.from k.from) ls → IsStrictlySortedBy (slice_cmp nat_cmp) (modules ls) → IsStrictlySortedBy (slice_cmp nat_cmp) (modules (before l ls))
+sorted_before : (l : Line) (ls : List Line) → AllByRecursion (λ k. NotAbove l.from k.from) ls → IsStrictlySortedBy (slice_cmp nat_cmp) (modules ls) → IsStrictlySortedBy (slice_cmp nat_cmp) (modules (before l ls))
 unfolding IsStrictlySortedBy
 sorted_before l [] under h = (tt, tt)
 sorted_before l (k ∷ ks) under h = go (same_text_of l.from k.from) refl (slice_cmp nat_cmp l.from k.from) refl
@@ -99,7 +100,7 @@ sorted-grouped [] h = tt
 sorted-grouped (e ∷ b) h =
     sorted_before (line_of e) (grouped b) (each-grouped (NotAbove e.target.0) b h.0) (sorted-grouped b h.1)
 
-every-apart : (x : Text) (ys : List Text) → Every (λ y. slice_cmp nat_cmp x y ≡ Less) ys → All (λ y. x ≢ y) ys
+every-apart : (x : Text) (ys : List Text) → Every (λ y. slice_cmp nat_cmp x y ≡ Less) ys → AllByRecursion (λ y. x ≢ y) ys
 every-apart x [] h = tt
 every-apart x (y ∷ ys) h = (below_apart x y h.0, every-apart x ys h.1)
 

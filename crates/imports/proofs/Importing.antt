@@ -1,5 +1,6 @@
 -- What the import lines are worth.
-use Rattle.std.proofs.Common.{◌≡◌, List, [], ◌∷◌, map, length, All, filter, ◌∙◌}
+use Rattle.std.proofs.Common.{◌≡◌, List, [], ◌∷◌, map, length, filter, ◌∙◌}
+use Rattle.std.specs.List.{AllByRecursion}
 use lib.ListN.{length-map}
 use Rattle.model.specs.Tree.{Text}
 use Rattle.model.specs.Uses.{Use}
@@ -17,12 +18,12 @@ use Rattle.imports.proofs.Reading.{texts_apart}
 abbrev Any : Text → Type 0
 Any m = Unit {0}
 
-all_any : (us : List Use) → All (λ u. Any u.from) us
+all_any : (us : List Use) → AllByRecursion (λ u. Any u.from) us
 all_any [] = tt
 all_any (u ∷ us) = (tt, all_any us)
 
 module _ (us : List Use) (ds : List Text) (own base : Text) (b : List Binding) (e : take_all_of by_number (declared_by own ds) (references us) ≡ bound b) where
-  kept : (P : Text → Type 0) → All (λ u. P u.from) us → Kept by_number proposes-by_number own P b []
+  kept : (P : Text → Type 0) → AllByRecursion (λ u. P u.from) us → Kept by_number proposes-by_number own P b []
   kept P h = kept_all by_number proposes-by_number own P ds (references us) b (lists_references us).ascends (of_references P us h) e
 
   apart : Apart (map (λ l. l.from) (lines_of own b))
@@ -36,7 +37,7 @@ module _ (us : List Use) (ds : List Text) (own base : Text) (b : List Binding) (
     counts = λ t. times-grouped t (filter (imported own) b) ∙ (kept Any (all_any us)).counts t;
   }
 
-  many : All (λ u. DottedName u.from) us → length (import_lines_of own base b) ≡ length (lines_of own b)
+  many : AllByRecursion (λ u. DottedName u.from) us → length (import_lines_of own base b) ≡ length (lines_of own b)
   unfolding import_lines_of
   many h =
       length-sorted (map (line_text base) (lines_of own b))

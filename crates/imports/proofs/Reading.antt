@@ -1,6 +1,7 @@
 -- A line's module is read off its text.
-use Rattle.std.proofs.Common.{◌≡◌, ℕ, zero, suc, ◌-◌, ◌≢◌, List, [], ◌∷◌, ◌++◌, map, length, drop, replicate, Some, codes, All, sym, refl, ap, ◌∙◌, append_assoc, arith}
-use Rattle.std.proofs.lemmas.List.Elements.{All-append, All-drop}
+use Rattle.std.proofs.Common.{◌≡◌, ℕ, zero, suc, ◌-◌, ◌≢◌, List, [], ◌∷◌, ◌++◌, map, length, drop, replicate, Some, codes, sym, refl, ap, ◌∙◌, append_assoc, arith}
+use Rattle.std.specs.List.{AllByRecursion}
+use Rattle.text.proofs.Each.{each-append, each-drop}
 use Rattle.model.specs.Tree.{Text}
 use Rattle.paths.specs.Paths.{split, join, join_from, path_text, common, relative_by, relative_text, read_path, resolve}
 use Rattle.paths.proofs.Names.{join-split}
@@ -14,19 +15,19 @@ no_space_dots : (n : ℕ) → NoSpace (replicate n 46)
 no_space_dots zero = tt
 no_space_dots (suc n) = ((λ e. omega arith), no_space_dots n)
 
-no_space_from : (p : Text) (ps : List Text) → NoSpace p → All NoSpace ps → NoSpace (join_from p ps)
+no_space_from : (p : Text) (ps : List Text) → NoSpace p → AllByRecursion NoSpace ps → NoSpace (join_from p ps)
 no_space_from p [] h hs = h
-no_space_from p (q ∷ qs) h hs = All-append (λ c. c ≢ 32) p (46 ∷ join_from q qs) h ((λ e. omega arith), no_space_from q qs hs.0 hs.1)
+no_space_from p (q ∷ qs) h hs = each-append (λ c. c ≢ 32) p (46 ∷ join_from q qs) h ((λ e. omega arith), no_space_from q qs hs.0 hs.1)
 
-no_space_join : (ps : List Text) → All NoSpace ps → NoSpace (join ps)
+no_space_join : (ps : List Text) → AllByRecursion NoSpace ps → NoSpace (join ps)
 no_space_join [] hs = tt
 no_space_join (p ∷ ps) hs = no_space_from p ps hs.0 hs.1
 
-no_space_by : (k : ℕ) (base target : List Text) → All NoSpace target → NoSpace (path_text (relative_by k base target))
+no_space_by : (k : ℕ) (base target : List Text) → AllByRecursion NoSpace target → NoSpace (path_text (relative_by k base target))
 no_space_by zero base target h = no_space_join target h
 no_space_by (suc k) base target h =
-    All-append (λ c. c ≢ 32) (replicate (suc (length base - suc k)) 46) (join (drop (suc k) target)) (no_space_dots (suc (length base - suc k)))
-    (no_space_join (drop (suc k) target) (All-drop NoSpace (suc k) target h))
+    each-append (λ c. c ≢ 32) (replicate (suc (length base - suc k)) 46) (join (drop (suc k) target)) (no_space_dots (suc (length base - suc k)))
+    (no_space_join (drop (suc k) target) (each-drop NoSpace (suc k) target h))
 
 no_space_path : (base m : Text) → DottedName m → NoSpace (relative_text base m)
 unfolding relative_text
@@ -61,11 +62,11 @@ lines_tell_lem base l k h g e =
 -- lines of different modules have different texts
 
 module _ (base : Text) where
-  all-differ : (l : Line) (ks : List Line) → DottedName l.from → All (λ k. DottedName k.from) ks → All (λ y. l.from ≢ y) (map (λ k. k.from) ks)
-      → All (λ y. line_text base l ≢ y) (map (line_text base) ks)
+  all-differ : (l : Line) (ks : List Line) → DottedName l.from → AllByRecursion (λ k. DottedName k.from) ks → AllByRecursion (λ y. l.from ≢ y) (map (λ k. k.from) ks)
+      → AllByRecursion (λ y. line_text base l ≢ y) (map (line_text base) ks)
   all-differ l [] h hs apart = tt
   all-differ l (k ∷ ks) h hs apart = ((λ e. apart.0 (lines_tell_lem base l k h hs.0 e)), all-differ l ks h hs.1 apart.1)
 
-  pub texts_apart : (ls : List Line) → All (λ l. DottedName l.from) ls → Apart (map (λ l. l.from) ls) → Apart (map (line_text base) ls)
+  pub texts_apart : (ls : List Line) → AllByRecursion (λ l. DottedName l.from) ls → Apart (map (λ l. l.from) ls) → Apart (map (line_text base) ls)
   texts_apart [] hs apart = tt
   texts_apart (l ∷ ls) hs apart = (all-differ l ls hs.0 hs.1 apart.0, texts_apart ls hs.1 apart.1)

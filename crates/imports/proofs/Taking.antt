@@ -1,12 +1,14 @@
 -- The bindings that are taken for references in order: their modules do not descend, and no target comes twice.
-use Rattle.std.proofs.Common.{◌≡◌, ℕ, ◌+◌, Bool, true, false, cond, not, ◌&&◌, ◌⊎◌, List, [], ◌∷◌, ◌++◌, map, Some, None, All, filter, Option, Less, sym, refl, ap, ◌∙◌, subst, inl, inr, arith}
+use Rattle.std.proofs.Common.{◌≡◌, ℕ, ◌+◌, Bool, true, false, cond, not, ◌&&◌, ◌⊎◌, List, [], ◌∷◌, ◌++◌, map, Some, None, filter, Option, Less, sym, refl, ap, ◌∙◌, subst, inl, inr, arith}
+use Rattle.std.specs.List.{AllByRecursion}
 use mathlib.Core.List.Memᴰ
 use mathlib.Core.List.{Memᴰ}
 use Rattle.std.specs.Ordering.{ordering_then, is_lt, nat_cmp}
 use Rattle.std.specs.Cmp.Lexicographic.{slice_cmp}
 use Rattle.std.specs.List.{AllByRecursion as Every}
 use Rattle.std.specs.List.Sorted.{IsStrictlySortedBy}
-use Rattle.std.proofs.lemmas.List.Elements.{filter-append, All-append, All-weaker}
+use Rattle.std.proofs.lemmas.List.Elements.{filter-append}
+use Rattle.text.proofs.Each.{each-append, each_weaker}
 use Rattle.std.proofs.lemmas.Bool.{false≢true}
 use Rattle.model.specs.Tree.{Text}
 use Rattle.model.specs.Uses.{Use, builtins}
@@ -52,19 +54,19 @@ tally_append : (t : Target) (xs ys : List Binding) → tally t (xs ++ ys) ≡ ta
 tally_append t [] ys = omega arith
 tally_append t (x ∷ xs) ys = let h = tally_append t xs ys in omega arith
 
-rising_more : (b : List Binding) (e : Binding) (c : Bool) → Rising b → All (λ k. NotAbove k.target.0 e.target.0) b → Rising (b ++ cond c (e ∷ []) [])
+rising_more : (b : List Binding) (e : Binding) (c : Bool) → Rising b → AllByRecursion (λ k. NotAbove k.target.0 e.target.0) b → Rising (b ++ cond c (e ∷ []) [])
 rising_more [] e true h below = (tt, tt)
 rising_more [] e false h below = tt
-rising_more (k ∷ b) e c h below = (All-append (λ j. NotAbove k.target.0 j.target.0) b (cond c (e ∷ []) []) h.0 (last c), rising_more b e c h.1 below.1)
+rising_more (k ∷ b) e c h below = (each-append (λ j. NotAbove k.target.0 j.target.0) b (cond c (e ∷ []) []) h.0 (last c), rising_more b e c h.1 below.1)
   where
-    last : (c : Bool) → All (λ j. NotAbove k.target.0 j.target.0) (cond c (e ∷ []) [])
+    last : (c : Bool) → AllByRecursion (λ j. NotAbove k.target.0 j.target.0) (cond c (e ∷ []) [])
     last true = (below.0, tt)
     last false = tt
 
-all_more : (P : Binding → Type 0) (b : List Binding) (e : Binding) (c : Bool) → All P b → P e → All P (b ++ cond c (e ∷ []) [])
-all_more P b e c h here = All-append P b (cond c (e ∷ []) []) h (last c)
+all_more : (P : Binding → Type 0) (b : List Binding) (e : Binding) (c : Bool) → AllByRecursion P b → P e → AllByRecursion P (b ++ cond c (e ∷ []) [])
+all_more P b e c h here = each-append P b (cond c (e ∷ []) []) h (last c)
   where
-    last : (c : Bool) → All P (cond c (e ∷ []) [])
+    last : (c : Bool) → AllByRecursion P (cond c (e ∷ []) [])
     last true = (here, tt)
     last false = tt
 
@@ -72,7 +74,7 @@ all_more P b e c h here = All-append P b (cond c (e ∷ []) []) h (last c)
 order-modules : (r s : Reference) → order r s ≡ Less → NotAbove r.0 s.0
 order-modules r s less above = false≢true (ap is_lt (sym (ap (λ o. ordering_then o (slice_cmp nat_cmp r.1 s.1)) above) ∙ less))
 
-every-modules : (r : Reference) (rs : List Reference) → Every (λ s. order r s ≡ Less) rs → All (λ s. NotAbove r.0 s.0) rs
+every-modules : (r : Reference) (rs : List Reference) → Every (λ s. order r s ≡ Less) rs → AllByRecursion (λ s. NotAbove r.0 s.0) rs
 every-modules r [] h = tt
 every-modules r (s ∷ rs) h = (order-modules r s h.0, every-modules r rs h.1)
 
@@ -85,8 +87,8 @@ module _ (propose : Proposals) (p : Proposes propose) (own : Text) (P : Text →
     pub lawful : Lawful propose b
     pub counts : (t : Target) → tally t (filter (imported own) b) ≡ due own t (name_of b t)
     pub rises : Rising (filter (imported own) b)
-    pub below : All (λ e. All (λ r. NotAbove e.target.0 r.0) rs) (filter (imported own) b)
-    pub each : All (λ e. P e.target.0) (filter (imported own) b)
+    pub below : AllByRecursion (λ e. AllByRecursion (λ r. NotAbove e.target.0 r.0) rs) (filter (imported own) b)
+    pub each : AllByRecursion (λ e. P e.target.0) (filter (imported own) b)
 
   lawful-declared : (ds : List Text) → Lawful propose (declared_by own ds)
   unfolding declared_by
@@ -99,8 +101,8 @@ module _ (propose : Proposals) (p : Proposes propose) (own : Text) (P : Text →
         lawful = lawful-declared ds;
         counts = λ t. ap (tally t) (kept_declared own ds) ∙ sym (due-declared own ds t);
         rises = subst Rising none tt;
-        below = subst (All (λ e. All (λ r. NotAbove e.target.0 r.0) rs)) none tt;
-        each = subst (All (λ e. P e.target.0)) none tt;
+        below = subst (AllByRecursion (λ e. AllByRecursion (λ r. NotAbove e.target.0 r.0) rs)) none tt;
+        each = subst (AllByRecursion (λ e. P e.target.0)) none tt;
       }
 
   -- a reference that has its name already
@@ -109,7 +111,7 @@ module _ (propose : Proposals) (p : Proposes propose) (own : Text) (P : Text →
     lawful = h.lawful;
     counts = h.counts;
     rises = h.rises;
-    below = All-weaker (λ e. All (λ s. NotAbove e.target.0 s.0) (r ∷ rs)) (λ e. All (λ s. NotAbove e.target.0 s.0) rs) (λ e k. k.1) (filter (imported own) b) h.below;
+    below = each_weaker (λ e. AllByRecursion (λ s. NotAbove e.target.0 s.0) (r ∷ rs)) (λ e. AllByRecursion (λ s. NotAbove e.target.0 s.0) rs) (λ e k. k.1) (filter (imported own) b) h.below;
     each = h.each;
   }
 
@@ -124,10 +126,10 @@ module _ (propose : Proposals) (p : Proposes propose) (own : Text) (P : Text →
         counts = λ t. ap (tally t) grown ∙ tally_append t (filter (imported own) b) (cond (imported own (binding_for w r)) (binding_for w r ∷ []) [])
             ∙ counted t (same_reference t (target_of r)) refl (name_of b t) refl (h.counts t) ∙ ap (due own t) (sym (name-more b (binding_for w r) t));
         rises = subst Rising (sym grown) (rising_more (filter (imported own) b) (binding_for w r) (imported own (binding_for w r)) h.rises
-            (All-weaker (λ k. All (λ s. NotAbove k.target.0 s.0) (r ∷ rs)) (λ k. NotAbove k.target.0 r.0) (λ k a. a.0) (filter (imported own) b) h.below));
-        below = subst (All (λ k. All (λ s. NotAbove k.target.0 s.0) rs)) (sym grown)
-            (all_more (λ k. All (λ s. NotAbove k.target.0 s.0) rs) (filter (imported own) b) (binding_for w r) (imported own (binding_for w r)) same.below (every-modules r rs up.0));
-        each = subst (All (λ k. P k.target.0)) (sym grown) (all_more (λ k. P k.target.0) (filter (imported own) b) (binding_for w r) (imported own (binding_for w r)) h.each here);
+            (each_weaker (λ k. AllByRecursion (λ s. NotAbove k.target.0 s.0) (r ∷ rs)) (λ k. NotAbove k.target.0 r.0) (λ k a. a.0) (filter (imported own) b) h.below));
+        below = subst (AllByRecursion (λ k. AllByRecursion (λ s. NotAbove k.target.0 s.0) rs)) (sym grown)
+            (all_more (λ k. AllByRecursion (λ s. NotAbove k.target.0 s.0) rs) (filter (imported own) b) (binding_for w r) (imported own (binding_for w r)) same.below (every-modules r rs up.0));
+        each = subst (AllByRecursion (λ k. P k.target.0)) (sym grown) (all_more (λ k. P k.target.0) (filter (imported own) b) (binding_for w r) (imported own (binding_for w r)) h.each here);
       }
     where
       grown : filter (imported own) (b ++ binding_for w r ∷ []) ≡ filter (imported own) b ++ cond (imported own (binding_for w r)) (binding_for w r ∷ []) []
@@ -177,7 +179,7 @@ module _ (propose : Proposals) (p : Proposes propose) (own : Text) (P : Text →
       go None is k = none-some None refl k
       go (Some w) is k = bind w is (find b w) refl (cc)
 
-  kept_through : (b : List Binding) (rs : List Reference) (c : List Binding) → IsStrictlySortedBy order rs → All (λ r. P r.0) rs → Kept b rs → take_all_of propose b rs ≡ bound c → Kept c []
+  kept_through : (b : List Binding) (rs : List Reference) (c : List Binding) → IsStrictlySortedBy order rs → AllByRecursion (λ r. P r.0) rs → Kept b rs → take_all_of propose b rs ≡ bound c → Kept c []
   unfolding IsStrictlySortedBy
   kept_through b [] c up good h e = let same : b ≡ c = cc in subst (λ x. Kept x []) same h
   kept_through b (r ∷ rs) c up good h e = go (step propose b (target_of r)) refl (λ d k. kept_through d rs c up.1 good.1 k) e
@@ -187,13 +189,13 @@ module _ (propose : Proposals) (p : Proposes propose) (own : Text) (P : Text →
       go None is more k = let z : ◌≡◌ {A = ℕ} 0 1 = cc in absurd (omega arith)
       go (Some d) is more k = more d (kept_step b r rs d up good.0 h is) k
 
-  pub kept_all : (ds : List Text) (rs : List Reference) (b : List Binding) → IsStrictlySortedBy order rs → All (λ r. P r.0) rs → take_all_of propose (declared_by own ds) rs ≡ bound b → Kept b []
+  pub kept_all : (ds : List Text) (rs : List Reference) (b : List Binding) → IsStrictlySortedBy order rs → AllByRecursion (λ r. P r.0) rs → take_all_of propose (declared_by own ds) rs ≡ bound b → Kept b []
   kept_all ds rs b up good e = kept_through (declared_by own ds) rs b up good (kept_none ds rs) e
 
 -- ---- what holds of the modules of the uses holds of those of the references
 
 module _ (P : Text → Type 0) where
-  of_member : (us : List Use) → All (λ u. P u.from) us → (r : Reference) → Memᴰ r (map reference_of us) → P r.0
+  of_member : (us : List Use) → AllByRecursion (λ u. P u.from) us → (r : Reference) → Memᴰ r (map reference_of us) → P r.0
   of_member [] h r m = elim m [ ]
   of_member (u ∷ us) h r m = go (of_member us h.1 r) (Memᴰ.cases_cons m)
     where
@@ -201,9 +203,9 @@ module _ (P : Text → Type 0) where
       go later (inl e) = subst (λ (s : Reference). P s.0) (sym e) h.0
       go later (inr there) = later there
 
-  of_members : (rs : List Reference) → ((r : Reference) → Memᴰ r rs → P r.0) → All (λ r. P r.0) rs
+  of_members : (rs : List Reference) → ((r : Reference) → Memᴰ r rs → P r.0) → AllByRecursion (λ r. P r.0) rs
   of_members [] f = tt
   of_members (r ∷ rs) f = (f r (Memᴰ.head refl), of_members rs (λ s m. f s (Memᴰ.tail m)))
 
-  pub of_references : (us : List Use) → All (λ u. P u.from) us → All (λ r. P r.0) (references us)
+  pub of_references : (us : List Use) → AllByRecursion (λ u. P u.from) us → AllByRecursion (λ r. P r.0) (references us)
   of_references us h = of_members (references us) (λ r m. of_member us h r ((lists_references us).within r m))

@@ -1,5 +1,6 @@
 -- Worked cases: what a file refers to, with the names and the import lines that come of it.
-use Rattle.std.specs.Prelude.{◌≡◌, List, [], ◌∷◌, map, Some, codes, All}
+use Rattle.std.specs.Prelude.{◌≡◌, List, [], ◌∷◌, map, Some, codes}
+use Rattle.std.specs.List.{AllByRecursion}
 use Rattle.model.specs.Tree.{Text}
 use Rattle.references.specs.References.{Reference}
 use Rattle.binding.specs.Binding.{Taken, bound, exhausted, by_number, take_all_of, declared_by, local_name}
@@ -88,4 +89,4 @@ cases =
     ∷ []
 
 abbrev pub WorkedCases : Type 0
-WorkedCases = All Holds cases
+WorkedCases = AllByRecursion Holds cases

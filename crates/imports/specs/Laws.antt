@@ -1,5 +1,6 @@
 -- What the import lines of a file are worth.
-use Rattle.std.specs.Prelude.{◌≡◌, ℕ, ◌+◌, ◌<◌, cond, ◌≢◌, List, [], ◌∷◌, ◌++◌, map, length, Some, None, All, filter, Option}
+use Rattle.std.specs.Prelude.{◌≡◌, ℕ, ◌+◌, ◌<◌, cond, ◌≢◌, List, [], ◌∷◌, ◌++◌, map, length, Some, None, filter, Option}
+use Rattle.std.specs.List.{AllByRecursion}
 use Rattle.std.specs.Cmp.Lexicographic.{slice_cmp}
 use Rattle.std.specs.List.Sorted.{IsStrictlySortedBy}
 use Rattle.model.specs.Tree.{Text}
@@ -38,31 +39,31 @@ due own t (Some w) = cond (imported own (binding w t)) 1 0
 
 abbrev pub Apart : List Text → Type 0
 Apart [] = Unit {0}
-Apart (x ∷ xs) = All (λ y. x ≢ y) xs × Apart xs
+Apart (x ∷ xs) = AllByRecursion (λ y. x ≢ y) xs × Apart xs
 
 -- the lines import what b binds and Python has not otherwise, each target once
 pub record Imports (own : Text) (b : List Binding) (lines : List Line) : Type 0 where
   -- the imports, line by line, are the bindings that are to be imported, in their order
   pub all : all_bindings lines ≡ filter (imported own) b
-  pub some : All (λ l. 0 < length l.imports) lines
+  pub some : AllByRecursion (λ l. 0 < length l.imports) lines
   -- no two lines are of one module
   pub apart : Apart (map (λ l. l.from) lines)
   pub counts : (t : Target) → times t lines ≡ due own t (name_of b t)
 
 -- 32 is the space
 abbrev pub NoSpace : Text → Type 0
-NoSpace p = All (λ c. c ≢ 32) p
+NoSpace p = AllByRecursion (λ c. c ≢ 32) p
 
 -- a dotted name: no part of it, between dots, is empty or has a space
 abbrev pub DottedName : Text → Type 0
-DottedName m = All SomeByte (split m) × All NoSpace (split m)
+DottedName m = AllByRecursion SomeByte (split m) × AllByRecursion NoSpace (split m)
 
 -- the texts are those of the lines, in strict order
 pub record Written (own base : Text) (us : List Use) (b : List Binding) : Type 0 where
   pub ascends : IsStrictlySortedBy (slice_cmp nat_cmp) (import_lines_of own base b)
   pub members : (t : Text) → Exactly (Member t (import_lines_of own base b)) (Member t (map (line_text base) (lines_of own b)))
   -- and there are as many, where the modules are named by dotted names
-  pub many : All (λ u. DottedName u.from) us → length (import_lines_of own base b) ≡ length (lines_of own b)
+  pub many : AllByRecursion (λ u. DottedName u.from) us → length (import_lines_of own base b) ≡ length (lines_of own b)
 
 abbrev pub LinesImport : Type 0
 LinesImport =

@@ -1,9 +1,10 @@
 -- What references are called: names without dots, which tell module and root.
-use Rattle.std.proofs.Common.{◌≡◌, ℕ, Bool, true, false, cond, eqb, ◌⊎◌, List, [], ◌∷◌, ◌++◌, map, is_some, Some, None, All, Option, sym, refl, ap, ◌∙◌, subst, inl, inr, arith}
+use Rattle.std.proofs.Common.{◌≡◌, ℕ, Bool, true, false, cond, eqb, ◌⊎◌, List, [], ◌∷◌, ◌++◌, map, is_some, Some, None, Option, sym, refl, ap, ◌∙◌, subst, inl, inr, arith}
+use Rattle.std.specs.List.{AllByRecursion}
 use mathlib.Core.List.Memᴰ
 use mathlib.Core.List.{Memᴰ}
 use Rattle.std.specs.Option.{option_map}
-use Rattle.std.proofs.lemmas.List.Elements.{All-weaker, All-map}
+use Rattle.text.proofs.Each.{each_weaker, each-map}
 use Rattle.std.proofs.lemmas.List.{append-nil, append_cancel_left}
 use Rattle.std.proofs.lemmas.Bool.{cond-true, cond-false, eqb-true, false≢true}
 use Rattle.text.specs.Names.{spelled, Identifier}
@@ -25,7 +26,7 @@ use Rattle.loaded.proofs.Spelling.{identifier-spelled, spelled_no_dot}
 -- ---- what holds of the uses holds of the references
 
 module _ (P : Reference → Type 0) where
-  of_member : (us : List Use) → All (λ u. P (reference_of u)) us → (r : Reference) → Memᴰ r (map reference_of us) → P r
+  of_member : (us : List Use) → AllByRecursion (λ u. P (reference_of u)) us → (r : Reference) → Memᴰ r (map reference_of us) → P r
   of_member [] h r m = elim m [ ]
   of_member (u ∷ us) h r m = go (of_member us h.1 r) (Memᴰ.cases_cons m)
     where
@@ -33,17 +34,17 @@ module _ (P : Reference → Type 0) where
       go later (inl e) = subst P (sym e) h.0
       go later (inr there) = later there
 
-  of_members : (rs : List Reference) → ((r : Reference) → Memᴰ r rs → P r) → All P rs
+  of_members : (rs : List Reference) → ((r : Reference) → Memᴰ r rs → P r) → AllByRecursion P rs
   of_members [] f = tt
   of_members (r ∷ rs) f = (f r (Memᴰ.head refl), of_members rs (λ s m. f s (Memᴰ.tail m)))
 
-  pub of_references : (us : List Use) → All (λ u. P (reference_of u)) us → All P (references us)
+  pub of_references : (us : List Use) → AllByRecursion (λ u. P (reference_of u)) us → AllByRecursion P (references us)
   of_references us h = of_members (references us) (λ r m. of_member us h r ((lists_references us).within r m))
 
 -- ---- what holds of each name that is found holds of each binding's
 
 module _ (P : Text → Type 0) where
-  pub all_found : (b : List Binding) → ((w : Text) (t : Target) → find b w ≡ Some t → P w) → All (λ e. P e.name) b
+  pub all_found : (b : List Binding) → ((w : Text) (t : Target) → find b w ≡ Some t → P w) → AllByRecursion (λ e. P e.name) b
   all_found [] f = tt
   all_found (e ∷ b) f = (f e.name e.target (cond-true (same_text_of e.name e.name) _ _ (text_itself e.name)), all_found b later)
     where
@@ -69,17 +70,17 @@ first-before w (b ∷ a) h = go (eqb b 46) refl (first-before w a h)
 module _ (own : Text) (ds : List Declared) (us : List Use) (b : List Binding) (shape : Shaped own ds us) (tells : Tells by_number own (map name_of ds) (references us) b) where
   found-spelled : (w : Text) (t : Target) → find b w ≡ Some t → spelled w ≡ true
   found-spelled = tells.shaped
-      (All-map (λ d. spelled d ≡ true) name_of ds (All-weaker (λ d. Identifier (name_of d)) (λ d. spelled (name_of d) ≡ true) (λ d. identifier-spelled (name_of d)) ds shape.declared))
+      (each-map (λ d. spelled d ≡ true) name_of ds (each_weaker (λ d. Identifier (name_of d)) (λ d. spelled (name_of d) ≡ true) (λ d. identifier-spelled (name_of d)) ds shape.declared))
       (of_references (λ r. spelled (target_of r).1 ≡ true) us
-      (All-weaker (λ u. Identifier (root_of u.name)) (λ u. spelled (root_of u.name) ≡ true) (λ u. identifier-spelled (root_of u.name)) us shape.roots))
+      (each_weaker (λ u. Identifier (root_of u.name)) (λ u. spelled (root_of u.name) ≡ true) (λ u. identifier-spelled (root_of u.name)) us shape.roots))
 
   found-undotted : (w : Text) (t : Target) → find b w ≡ Some t → NoDot w
   found-undotted w t h = spelled_no_dot w (found-spelled w t h)
 
-  pub all-spelled : All (λ e. spelled e.name ≡ true) b
+  pub all-spelled : AllByRecursion (λ e. spelled e.name ≡ true) b
   all-spelled = all_found (λ w. spelled w ≡ true) b found-spelled
 
-  pub all-undotted : All (λ e. NoDot e.name) b
+  pub all-undotted : AllByRecursion (λ e. NoDot e.name) b
   all-undotted = all_found NoDot b found-undotted
 
   pub has_name : (r : Reference) → Member r (references us) → is_some (local_name b r) ≡ true

@@ -1,8 +1,9 @@
 -- The files of a tree: their numbers, and what holds of each because it holds of the tree.
-use Rattle.std.proofs.Common.{◌≡◌, ℕ, zero, suc, ◌+◌, ◌<◌, true, List, [], ◌∷◌, ◌++◌, map, length, get_or, Some, All, sym, refl, ap, ◌∙◌, subst, arith}
+use Rattle.std.proofs.Common.{◌≡◌, ℕ, zero, suc, ◌+◌, ◌<◌, true, List, [], ◌∷◌, ◌++◌, map, length, get_or, Some, sym, refl, ap, ◌∙◌, subst, arith}
+use Rattle.std.specs.List.{AllByRecursion}
 use lib.ListN.{length-map}
 use Rattle.std.specs.List.{slice_get}
-use Rattle.std.proofs.lemmas.List.Elements.{All-append, All-push, All-weaker}
+use Rattle.text.proofs.Each.{each-append, each-push, each_weaker}
 use Rattle.std.proofs.lemmas.List.{length-append}
 use Rattle.std.proofs.lemmas.Option.{slice_get-get_or}
 use Rattle.text.specs.Names.{Identifier}
@@ -48,18 +49,18 @@ file_of_lem m k l = record {
 -- ---- items
 
 abbrev Met : Module → Type 0
-Met m = All NameMeets (module_items m)
+Met m = AllByRecursion NameMeets (module_items m)
 
 mutual
-  files-meet : (m : Module) → Met m → All Met (files m)
+  files-meet : (m : Module) → Met m → AllByRecursion Met (files m)
   files-meet (pymodule p s modules own classes functions attributes) h = (h, files_in-meet modules (all-front NameMeets (modules_items modules) _ h.1))
 
-  files_in-meet : (ms : Modules) → All NameMeets (modules_items ms) → All Met (files_in ms)
+  files_in-meet : (ms : Modules) → AllByRecursion NameMeets (modules_items ms) → AllByRecursion Met (files_in ms)
   files_in-meet no_module h = tt
   files_in-meet (add_module m ms) h =
-      All-append Met (files m) (files_in ms) (files-meet m (all-front NameMeets (module_items m) (modules_items ms) h)) (files_in-meet ms (all-behind NameMeets (module_items m) (modules_items ms) h))
+      each-append Met (files m) (files_in ms) (files-meet m (all-front NameMeets (module_items m) (modules_items ms) h)) (files_in-meet ms (all-behind NameMeets (module_items m) (modules_items ms) h))
 
-all_nth : {A : Type 0} (P : A → Type 0) (xs : List A) (k : ℕ) (x : A) → All P xs → slice_get xs k ≡ Some x → P x
+all_nth : {A : Type 0} (P : A → Type 0) (xs : List A) (k : ℕ) (x : A) → AllByRecursion P xs → slice_get xs k ≡ Some x → P x
 all_nth P [] k x h e = let z : ◌≡◌ {A = ℕ} 0 1 = cc in absurd (omega arith)
 all_nth P (y ∷ ys) zero x h e = let same : y ≡ x = cc in subst P same h.0
 all_nth P (y ∷ ys) (suc k) x h e = all_nth P ys k x h.1 e
@@ -72,29 +73,29 @@ file-meets m h k f = all_nth Met (files m) k f.self (files-meet m h) f.is
 -- a chain of identifiers, one at least
 abbrev Chain : List Text → Type 0
 Chain [] = ⊥
-Chain (s ∷ ss) = All Identifier (s ∷ ss)
+Chain (s ∷ ss) = AllByRecursion Identifier (s ∷ ss)
 
-chain_more : (above : List Text) (s : Text) → All Identifier above → Identifier s → Chain (above ++ s ∷ [])
+chain_more : (above : List Text) (s : Text) → AllByRecursion Identifier above → Identifier s → Chain (above ++ s ∷ [])
 chain_more [] s h k = (k, tt)
-chain_more (a ∷ above) s h k = All-push Identifier (a ∷ above) s h k
+chain_more (a ∷ above) s h k = each-push Identifier (a ∷ above) s h k
 
 mutual
-  chains-shaped : (m : Module) (above : List Text) → All Identifier above → Met m → All Chain (chains m above)
+  chains-shaped : (m : Module) (above : List Text) → AllByRecursion Identifier above → Met m → AllByRecursion Chain (chains m above)
   chains-shaped (pymodule p s modules own classes functions attributes) above up h =
-      (chain_more above s up h.0, chains_in-shaped modules (above ++ s ∷ []) (All-push Identifier above s up h.0) (all-front NameMeets (modules_items modules) _ h.1))
+      (chain_more above s up h.0, chains_in-shaped modules (above ++ s ∷ []) (each-push Identifier above s up h.0) (all-front NameMeets (modules_items modules) _ h.1))
 
-  chains_in-shaped : (ms : Modules) (above : List Text) → All Identifier above → All NameMeets (modules_items ms) → All Chain (chains_in ms above)
+  chains_in-shaped : (ms : Modules) (above : List Text) → AllByRecursion Identifier above → AllByRecursion NameMeets (modules_items ms) → AllByRecursion Chain (chains_in ms above)
   chains_in-shaped no_module above up h = tt
   chains_in-shaped (add_module m ms) above up h =
-      All-append Chain (chains m above) (chains_in ms above) (chains-shaped m above up (all-front NameMeets (module_items m) (modules_items ms) h))
+      each-append Chain (chains m above) (chains_in ms above) (chains-shaped m above up (all-front NameMeets (module_items m) (modules_items ms) h))
       (chains_in-shaped ms above up (all-behind NameMeets (module_items m) (modules_items ms) h))
 
 -- the parts of a joined chain are the chain
 split-chain : (c : List Text) → Chain c → split (join c) ≡ c
 split-chain [] h = absurd h
-split-chain (s ∷ ss) h = let bare = All-weaker Identifier NoDot identifier_no_dot (s ∷ ss) h in split-join s ss bare.0 bare.1
+split-chain (s ∷ ss) h = let bare = each_weaker Identifier NoDot identifier_no_dot (s ∷ ss) h in split-join s ss bare.0 bare.1
 
-chain-identifiers : (c : List Text) → Chain c → All Identifier c
+chain-identifiers : (c : List Text) → Chain c → AllByRecursion Identifier c
 chain-identifiers [] h = absurd h
 chain-identifiers (s ∷ ss) h = h
 
@@ -108,5 +109,5 @@ module _ (m : Module) (h : Met m) (k : ℕ) (f : FileOf m k) where
   own-chain = nth_map join (chains m []) k f.own f.called λ c e same.
       e ∙ ap Some (sym (split-chain c (all_nth Chain (chains m []) k c (chains-shaped m [] tt h) e)) ∙ ap split same)
 
-  pub own-identifiers : All Identifier (split f.own)
+  pub own-identifiers : AllByRecursion Identifier (split f.own)
   own-identifiers = chain-identifiers (split f.own) (all_nth Chain (chains m []) k (split f.own) (chains-shaped m [] tt h) own-chain)

@@ -1,6 +1,7 @@
 -- What a file collects and declares comes of the items that its module is judged by.
-use Rattle.std.proofs.Common.{ℕ, List, [], ◌∷◌, ◌++◌, Some, None, All, Option}
-use Rattle.std.proofs.lemmas.List.Elements.{All-append}
+use Rattle.std.proofs.Common.{ℕ, List, [], ◌∷◌, ◌++◌, Some, None, Option}
+use Rattle.std.specs.List.{AllByRecursion}
+use Rattle.text.proofs.Each.{each-append}
 use Rattle.text.specs.Names.{Identifier, Dotted}
 use Rattle.model.specs.Tree.{Text, Expr, Exprs, Attribute, Argument, Star, Function, Class, Classes, Module, constant, name, attr, binop, tuple, list, subscript, end, item, pyclass, no_class, add_class, pymodule}
 use Rattle.model.specs.Rules.{Item, expr_items, exprs_items, each_items, any_items, attribute_items, argument_items, star_items, function_items, class_items, classes_items, modules_items, module_items}
@@ -12,16 +13,16 @@ use Rattle.loaded.proofs.Spelling.{builtins-dotted}
 
 -- what holds of each of two lists together holds of each of them
 
-pub all-front : {A : Type 0} (P : A → Type 0) (xs ys : List A) → All P (xs ++ ys) → All P xs
+pub all-front : {A : Type 0} (P : A → Type 0) (xs ys : List A) → AllByRecursion P (xs ++ ys) → AllByRecursion P xs
 all-front P [] ys h = tt
 all-front P (x ∷ xs) ys h = (h.0, all-front P xs ys h.1)
 
-pub all-behind : {A : Type 0} (P : A → Type 0) (xs ys : List A) → All P (xs ++ ys) → All P ys
+pub all-behind : {A : Type 0} (P : A → Type 0) (xs ys : List A) → AllByRecursion P (xs ++ ys) → AllByRecursion P ys
 all-behind P [] ys h = h
 all-behind P (x ∷ xs) ys h = all-behind P xs ys h.1
 
 abbrev Met : List Item → Type 0
-Met is = All NameMeets is
+Met is = AllByRecursion NameMeets is
 
 met_front : (is js : List Item) → Met (is ++ js) → Met is
 met_front is js h = all-front NameMeets is js h
@@ -35,10 +36,10 @@ abbrev pub UseShaped : Use → Type 0
 UseShaped u = Dotted u.from × Dotted u.name
 
 abbrev pub Refers : List Use → Type 0
-Refers us = All UseShaped us
+Refers us = AllByRecursion UseShaped us
 
 both : (us vs : List Use) → Refers us → Refers vs → Refers (us ++ vs)
-both us vs h k = All-append UseShaped us vs h k
+both us vs h k = each-append UseShaped us vs h k
 
 each : {A : Type 0} (f : A → List Item) (g : A → List Use) → ((x : A) → Met (f x) → Refers (g x)) → (xs : List A) → Met (each_items f xs) → Refers (each_uses g xs)
 each f g one [] h = tt
@@ -140,7 +141,7 @@ module-refers (pymodule p s modules own classes functions attributes) h =
 -- ---- declared names
 
 abbrev pub Declares : List Declared → Type 0
-Declares ds = All (λ d. Identifier (name_of d)) ds
+Declares ds = AllByRecursion (λ d. Identifier (name_of d)) ds
 
 class-declares : (c : Class) → Met (class_items c) → (cs : Classes) → Declares (classes_declared cs) → Declares (classes_declared (add_class c cs))
 class-declares (pyclass p s bases methods attributes decorators inner) h cs more = (h.0, more)
@@ -165,8 +166,8 @@ pub module-declares : (m : Module) → Met (module_items m) → Declares (declar
 module-declares (pymodule p s modules own classes functions attributes) h =
     let behind = met_behind (modules_items modules) _ h.1 in
     let later = met_behind (classes_items classes) _ behind in
-    All-append (λ d. Identifier (name_of d)) (classes_declared classes) _
+    each-append (λ d. Identifier (name_of d)) (classes_declared classes) _
     (classes-declare classes (met_front (classes_items classes) _ behind))
-    (All-append (λ d. Identifier (name_of d)) (functions_declared functions) (attributes_declared attributes)
+    (each-append (λ d. Identifier (name_of d)) (functions_declared functions) (attributes_declared attributes)
     (functions-declare functions (met_front (each_items function_items functions) (each_items attribute_items attributes) later))
     (attributes-declare attributes (met_behind (each_items function_items functions) (each_items attribute_items attributes) later)))

@@ -1,6 +1,7 @@
 -- Each import line leads to its module.
-use Rattle.std.proofs.Common.{◌≡◌, Bool, List, Some, All, filter, subst}
-use Rattle.std.proofs.lemmas.List.Elements.{All-weaker}
+use Rattle.std.proofs.Common.{◌≡◌, Bool, List, Some, filter, subst}
+use Rattle.std.specs.List.{AllByRecursion}
+use Rattle.text.proofs.Each.{each_weaker}
 use Rattle.text.specs.Names.{Dotted}
 use Rattle.model.specs.Tree.{Text}
 use Rattle.model.specs.Uses.{Use}
@@ -26,12 +27,12 @@ target-leads own is_package target h =
 
 -- the modules of the lines are those of uses
 lines-dotted : (own : Text) (ds : List Text) (us : List Use) (b : List Binding) → take_all_of by_number (declared_by own ds) (references us) ≡ bound b
-    → All (λ u. Dotted u.from) us → All (λ l. Dotted l.from) (lines_of own b)
+    → AllByRecursion (λ u. Dotted u.from) us → AllByRecursion (λ l. Dotted l.from) (lines_of own b)
 lines-dotted own ds us b e h =
     each-grouped Dotted (filter (imported own) b)
     (kept_all by_number proposes-by_number own Dotted ds (references us) b (lists_references us).ascends (of_references Dotted us h) e).each
 
 pub lines-lead : (own : Text) (is_package : Bool) (ds : List Text) (us : List Use) (b : List Binding) → take_all_of by_number (declared_by own ds) (references us) ≡ bound b
-    → All (λ u. Dotted u.from) us → All (λ l. Leads own is_package l.from) (lines_of own b)
+    → AllByRecursion (λ u. Dotted u.from) us → AllByRecursion (λ l. Leads own is_package l.from) (lines_of own b)
 lines-lead own is_package ds us b e h =
-    All-weaker (λ (l : Line). Dotted l.from) (λ l. Leads own is_package l.from) (λ l. target-leads own is_package l.from) (lines_of own b) (lines-dotted own ds us b e h)
+    each_weaker (λ (l : Line). Dotted l.from) (λ l. Leads own is_package l.from) (λ l. target-leads own is_package l.from) (lines_of own b) (lines-dotted own ds us b e h)

@@ -1,6 +1,7 @@
 -- The law of names, put together.
-use Rattle.std.proofs.Common.{◌≡◌, ℕ, List, [], map, All}
-use Rattle.std.proofs.lemmas.List.Elements.{All-weaker}
+use Rattle.std.proofs.Common.{◌≡◌, ℕ, List, [], map}
+use Rattle.std.specs.List.{AllByRecursion}
+use Rattle.text.proofs.Each.{each_weaker}
 use Rattle.text.specs.Names.{Identifier, Dotted}
 use Rattle.model.specs.Tree.{Module}
 use Rattle.model.specs.Uses.{Use}
@@ -25,15 +26,15 @@ use Rattle.loaded.proofs.Calling.{all-spelled, all-undotted, has_name, same-fron
 use Rattle.loaded.proofs.Outcomes.{resolved-bound, outcome}
 use Rattle.loaded.proofs.Leading.{lines-lead}
 
-module _ (m : Module) (h : All NameMeets (module_items m)) (k : ℕ) (f : FileOf m k) where
+module _ (m : Module) (h : AllByRecursion NameMeets (module_items m)) (k : ℕ) (f : FileOf m k) where
   shaped : Shaped f.own (declares f.self) (collects f.self)
   shaped =
       let us : List Use = collects f.self in
       let refers = module-refers f.self (file-meets m h k f) in
       record {
-        modules = All-weaker UseShaped (λ u. Dotted u.from) (λ u d. d.0) us refers;
-        attributes = All-weaker UseShaped (λ u. Dotted u.name) (λ u d. d.1) us refers;
-        roots = All-weaker UseShaped (λ u. Identifier (root_of u.name)) (λ u d. dotted-root u.name d.1) us refers;
+        modules = each_weaker UseShaped (λ u. Dotted u.from) (λ u d. d.0) us refers;
+        attributes = each_weaker UseShaped (λ u. Dotted u.name) (λ u d. d.1) us refers;
+        roots = each_weaker UseShaped (λ u. Identifier (root_of u.name)) (λ u d. dotted-root u.name d.1) us refers;
         declared = module-declares f.self (file-meets m h k f);
         called = own-identifiers m h k f;
       }
@@ -55,7 +56,7 @@ module _ (m : Module) (h : All NameMeets (module_items m)) (k : ℕ) (f : FileOf
         one = same_whole own ds us b shaped tells;
         imports = lines.0;
         written = lines.1;
-        many = lines.1.many (All-weaker (λ u. Dotted u.from) (λ u. DottedName u.from) (λ u. dotted-name u.from) us shaped.modules);
+        many = lines.1.many (each_weaker (λ u. Dotted u.from) (λ u. DottedName u.from) (λ u. dotted-name u.from) us shaped.modules);
         leads = lines-lead own f.is_package (map name_of ds) us b taken shaped.modules;
       }
 

@@ -1,5 +1,6 @@
 -- What the names of a file are worth, for every file of every model that loads.
-use Rattle.std.specs.Prelude.{◌≡◌, ℕ, ◌<◌, ◌≤◌, Bool, true, ◌⊎◌, List, [], map, length, is_some, Some, All}
+use Rattle.std.specs.Prelude.{◌≡◌, ℕ, ◌<◌, ◌≤◌, Bool, true, ◌⊎◌, List, [], map, length, is_some, Some}
+use Rattle.std.specs.List.{AllByRecursion}
 use Rattle.std.specs.List.{slice_get}
 use Rattle.text.specs.Names.{spelled, Identifier, Dotted}
 use Rattle.model.specs.Tree.{Text, Module, pymodule}
@@ -42,12 +43,12 @@ declares (pymodule p s modules own classes functions attributes) = declarations 
 
 pub record Shaped (own : Text) (ds : List Declared) (us : List Use) : Type 0 where
   -- the module of a collected reference and its attribute are dotted names, and its root is an identifier
-  pub modules : All (λ u. Dotted u.from) us
-  pub attributes : All (λ u. Dotted u.name) us
-  pub roots : All (λ u. Identifier (root_of u.name)) us
-  pub declared : All (λ d. Identifier (name_of d)) ds
+  pub modules : AllByRecursion (λ u. Dotted u.from) us
+  pub attributes : AllByRecursion (λ u. Dotted u.name) us
+  pub roots : AllByRecursion (λ u. Identifier (root_of u.name)) us
+  pub declared : AllByRecursion (λ d. Identifier (name_of d)) ds
   -- the own module's name has identifiers between its dots; as a whole it may be longer than a dotted name in a model
-  pub called : All Identifier (split own)
+  pub called : AllByRecursion Identifier (split own)
 
 -- ---- How the names of a file come out
 
@@ -107,8 +108,8 @@ pub record Worth (own : Text) (is_package : Bool) (ds : List Declared) (us : Lis
   -- names and targets are bound one to one, each under the lowest name that was free, and nothing else is bound
   pub tells : Tells by_number own (map name_of ds) (references us) b
   -- each bound name is spelled like an identifier, and so has no dot
-  pub names : All (λ e. spelled e.name ≡ true) b
-  pub undotted : All (λ e. NoDot e.name) b
+  pub names : AllByRecursion (λ e. spelled e.name ≡ true) b
+  pub undotted : AllByRecursion (λ e. NoDot e.name) b
   -- each reference has a local name, and two local names are the same up to the first dot exactly if module and root are
   pub named : (r : Reference) → Member r (references us) → is_some (local_name b r) ≡ true
   pub same :
@@ -124,7 +125,7 @@ pub record Worth (own : Text) (is_package : Bool) (ds : List Declared) (us : Lis
   pub written : Written own (base_of own is_package) us b
   pub many : length (import_lines_of own (base_of own is_package) b) ≡ length (lines_of own b)
   -- each of them leads to its module
-  pub leads : All (λ l. Leads own is_package l.from) (lines_of own b)
+  pub leads : AllByRecursion (λ l. Leads own is_package l.from) (lines_of own b)
 
 -- ---- The law
 

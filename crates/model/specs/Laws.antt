@@ -1,12 +1,13 @@
 -- What reading means, in terms of writing.
-use Rattle.std.specs.Prelude.{◌≡◌, ℕ, ◌-◌, ◌<◌, ◌≤◌, ◌⊎◌, ◌↔◌, List, [], ◌∷◌, ◌++◌, length, take, All, ◌≢◌}
+use Rattle.std.specs.Prelude.{◌≡◌, ℕ, ◌-◌, ◌<◌, ◌≤◌, ◌⊎◌, ◌↔◌, List, [], ◌∷◌, ◌++◌, length, take, ◌≢◌}
+use Rattle.std.specs.List.{AllByRecursion}
 use Rattle.model.specs.Tree.{Module, module_depth}
 use Rattle.model.specs.Encode.{encode}
 use Rattle.model.specs.Read.{read, fault, model}
 use Rattle.model.specs.Places.{module_at}
 
 abbrev pub Bytes : List ℕ → Type 0
-Bytes bs = All (λ b. b < 256) bs
+Bytes bs = AllByRecursion (λ b. b < 256) bs
 
 -- The bytes are a tree's encoding, and nothing more; the tree is at most 64 deep; its places are where its items start.
 abbrev pub Describes : List ℕ → Module → Type 0

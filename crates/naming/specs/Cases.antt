@@ -1,5 +1,6 @@
 -- Worked cases: names, each with the name that follows it.
-use Rattle.std.specs.Prelude.{◌≡◌, ℕ, List, [], ◌∷◌, ◌++◌, replicate, Some, None, codes, All, Option}
+use Rattle.std.specs.Prelude.{◌≡◌, ℕ, List, [], ◌∷◌, ◌++◌, replicate, Some, None, codes, Option}
+use Rattle.std.specs.List.{AllByRecursion}
 use Rattle.naming.specs.Next.{next_name}
 
 pub record Case : Type 0 where
@@ -28,4 +29,4 @@ cases =
     ∷ []
 
 abbrev pub CasesHold : Type 0
-CasesHold = All Holds cases
+CasesHold = AllByRecursion Holds cases

@@ -1,5 +1,6 @@
 -- A path leads to its target, and is read back from its text.
-use Rattle.std.proofs.Common.{◌≡◌, ℕ, zero, suc, ◌-◌, ◌<◌, ◌≤◌, Bool, true, false, cond, eqb, List, [], ◌∷◌, ◌++◌, length, take, drop, replicate, Some, All, sym, refl, ap, ◌∙◌, arith}
+use Rattle.std.proofs.Common.{◌≡◌, ℕ, zero, suc, ◌-◌, ◌<◌, ◌≤◌, Bool, true, false, cond, eqb, List, [], ◌∷◌, ◌++◌, length, take, drop, replicate, Some, sym, refl, ap, ◌∙◌, arith}
+use Rattle.std.specs.List.{AllByRecursion}
 use Rattle.std.specs.Str.{bytes_eq}
 use Rattle.std.proofs.lemmas.Bool.{cond-true, lt-ltb, ne_eqb}
 use Rattle.paths.specs.Paths.{path_text, common, relative_by, relative_text, resolve, read_path, leading, after_dots, parts_of, split, join}
@@ -56,17 +57,17 @@ after-dots : (n : ℕ) (s : List ℕ) → leading s ≡ 0 → after_dots (replic
 after-dots zero s h = after_none s h
 after-dots (suc n) s h = after-dots n s h
 
-starts : (ps : List (List ℕ)) → All SomeByte ps → All NoDot ps → leading (join ps) ≡ 0
+starts : (ps : List (List ℕ)) → AllByRecursion SomeByte ps → AllByRecursion NoDot ps → leading (join ps) ≡ 0
 starts [] w f = refl
 starts ([] ∷ ps) w f = let no = w.0 in absurd (omega arith)
 starts ((b ∷ p) ∷ ps) w f = rw (join_more b p ps, ne_eqb b 46 f.0.0) refl
 
-whole : (ps : List (List ℕ)) → All SomeByte ps → All NoDot ps → parts_of (join ps) ≡ ps
+whole : (ps : List (List ℕ)) → AllByRecursion SomeByte ps → AllByRecursion NoDot ps → parts_of (join ps) ≡ ps
 whole [] w f = refl
 whole ([] ∷ ps) w f = let no = w.0 in absurd (omega arith)
 whole ((b ∷ p) ∷ ps) w f = rw (join_more b p ps) (ap split (sym (join_more b p ps)) ∙ split-join (b ∷ p) ps f.0 f.1)
 
-reads : (n : ℕ) (ps : List (List ℕ)) → All SomeByte ps → All NoDot ps →
+reads : (n : ℕ) (ps : List (List ℕ)) → AllByRecursion SomeByte ps → AllByRecursion NoDot ps →
     read_path (replicate n 46 ++ join ps) ≡ record { dots = n; parts = ps }
 unfolding read_path
 reads n ps w f =
@@ -77,12 +78,12 @@ reads n ps w f =
 pub paths_read_lem : PathsRead
 paths_read_lem p w f = reads p.dots p.parts w f
 
-all_drop : (P : List ℕ → Type 0) (k : ℕ) (ps : List (List ℕ)) → All P ps → All P (drop k ps)
+all_drop : (P : List ℕ → Type 0) (k : ℕ) (ps : List (List ℕ)) → AllByRecursion P ps → AllByRecursion P (drop k ps)
 all_drop P zero ps h = h
 all_drop P (suc k) [] h = h
 all_drop P (suc k) (p ∷ ps) h = all_drop P k ps h.1
 
-reads_by : (k : ℕ) (base target : List (List ℕ)) → All SomeByte target → All NoDot target →
+reads_by : (k : ℕ) (base target : List (List ℕ)) → AllByRecursion SomeByte target → AllByRecursion NoDot target →
     read_path (path_text (relative_by k base target)) ≡ relative_by k base target
 reads_by zero base target w f = reads 0 target w f
 reads_by (suc k) base target w f =

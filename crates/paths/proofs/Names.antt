@@ -1,5 +1,6 @@
 -- Names and their parts.
-use Rattle.std.proofs.Common.{◌≡◌, ℕ, Bool, true, false, cond, eqb, List, [], ◌∷◌, ◌++◌, length, replicate, All, refl, ap, ◌∙◌}
+use Rattle.std.proofs.Common.{◌≡◌, ℕ, Bool, true, false, cond, eqb, List, [], ◌∷◌, ◌++◌, length, replicate, refl, ap, ◌∙◌}
+use Rattle.std.specs.List.{AllByRecursion}
 use Rattle.std.specs.Str.{bytes_eq}
 use Rattle.std.proofs.lemmas.Bool.{and_parts, eqb-true, eqb-false, ne_eqb, false≢true}
 use Rattle.paths.specs.Paths.{first_part, other_parts, split, join_from, join}
@@ -49,7 +50,7 @@ pub none_other : (p : List ℕ) → NoDot p → other_parts p ≡ []
 none_other [] h = refl
 none_other (b ∷ p) h = rw (ne_eqb b 46 h.0) (none_other p h.1)
 
-pub split-join : (p : List ℕ) (ps : List (List ℕ)) → NoDot p → All NoDot ps → split (join_from p ps) ≡ p ∷ ps
+pub split-join : (p : List ℕ) (ps : List (List ℕ)) → NoDot p → AllByRecursion NoDot ps → split (join_from p ps) ≡ p ∷ ps
 split-join p [] h hs = let f = first_alone p h in let o = none_other p h in cc
 split-join p (q ∷ qs) h hs =
     let f = first_of p (join_from q qs) h in
@@ -59,12 +60,12 @@ split-join p (q ∷ qs) h hs =
 
 -- no part of a split has a dot
 
-no_dot_step : (dot : Bool) (b : ℕ) (bs : List ℕ) → eqb b 46 ≡ dot → All NoDot (split bs) →
-    All NoDot (cond dot [] (b ∷ first_part bs) ∷ cond dot (first_part bs ∷ other_parts bs) (other_parts bs))
+no_dot_step : (dot : Bool) (b : ℕ) (bs : List ℕ) → eqb b 46 ≡ dot → AllByRecursion NoDot (split bs) →
+    AllByRecursion NoDot (cond dot [] (b ∷ first_part bs) ∷ cond dot (first_part bs ∷ other_parts bs) (other_parts bs))
 no_dot_step true b bs e h = (tt, h)
 no_dot_step false b bs e h = ((eqb-false b 46 e, h.0), h.1)
 
-pub no_dot_split : (bs : List ℕ) → All NoDot (split bs)
+pub no_dot_split : (bs : List ℕ) → AllByRecursion NoDot (split bs)
 no_dot_split [] = (tt, tt)
 no_dot_split (b ∷ bs) = no_dot_step (eqb b 46) b bs refl (no_dot_split bs)
 

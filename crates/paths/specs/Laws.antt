@@ -1,5 +1,6 @@
 -- What paths are for: Python finds the target by them.
-use Rattle.std.specs.Prelude.{◌≡◌, ℕ, ◌<◌, ◌≢◌, List, [], ◌∷◌, map, length, Some, codes, All}
+use Rattle.std.specs.Prelude.{◌≡◌, ℕ, ◌<◌, ◌≢◌, List, [], ◌∷◌, map, length, Some, codes}
+use Rattle.std.specs.List.{AllByRecursion}
 use Rattle.paths.specs.Paths.{Path, path_text, relative, relative_text, resolve, read_path, split}
 
 -- from any base, the path of a target leads to that target
@@ -10,16 +11,16 @@ abbrev pub SomeByte : List ℕ → Type 0
 SomeByte p = 0 < length p
 
 abbrev pub NoDot : List ℕ → Type 0
-NoDot p = All (λ b. b ≢ 46) p
+NoDot p = AllByRecursion (λ b. b ≢ 46) p
 
 -- a path is read back from its text, where its parts are parts: none is empty, and none has a dot
 abbrev pub PathsRead : Type 0
-PathsRead = (p : Path) → All SomeByte p.parts → All NoDot p.parts → read_path (path_text p) ≡ p
+PathsRead = (p : Path) → AllByRecursion SomeByte p.parts → AllByRecursion NoDot p.parts → read_path (path_text p) ≡ p
 
 -- so the text of a path leads to its target, where no part of that is empty
 abbrev pub TextsResolve : Type 0
 TextsResolve =
-    (base target : List ℕ) → All SomeByte (split target) → resolve (split base) (read_path (relative_text base target)) ≡ Some (split target)
+    (base target : List ℕ) → AllByRecursion SomeByte (split target) → resolve (split base) (read_path (relative_text base target)) ≡ Some (split target)
 
 -- the path from one module to another
 pub record Example : Type 0 where

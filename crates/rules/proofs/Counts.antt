@@ -1,6 +1,7 @@
 -- How many different keys there are does not depend on their order, so that no place is over a limit exactly if all the keys
 -- together are within it.
-use Rattle.std.proofs.Common.{◌≡◌, ℕ, ◌+◌, ◌≤◌, Bool, true, false, cond, ◌||◌, ltb, ◌↔◌, List, [], ◌∷◌, ◌++◌, map, Decides, All, sym, refl, ap, ◌∙◌, subst, inl, inr, append-nil, arith}
+use Rattle.std.proofs.Common.{◌≡◌, ℕ, ◌+◌, ◌≤◌, Bool, true, false, cond, ◌||◌, ltb, ◌↔◌, List, [], ◌∷◌, ◌++◌, map, Decides, sym, refl, ap, ◌∙◌, subst, inl, inr, append-nil, arith}
+use Rattle.std.specs.List.{AllByRecursion}
 use mathlib.Core.Logic.Iff
 use mathlib.Core.List.{map-map}
 use Rattle.std.proofs.lemmas.Bool.{cases_Bool, ltb-false, le-ltb, both_ways}
@@ -100,5 +101,5 @@ file_nil (pymodule p s modules own classes functions attributes) =
     let us = collected classes functions attributes in
     Iff.trans (append_nil_both (surplus_declared_of ds) (surplus_uses us)) (Iff.and (over_keyed same_text_of same_text 512 declared_key ds) (over_keyed same_reference same-reference 512 use_key us))
 
-pub files_nil : (fs : List Module) → (surplus_in_files fs ≡ []) ↔ (All DeclaresFew fs × All RefersFew fs)
+pub files_nil : (fs : List Module) → (surplus_in_files fs ≡ []) ↔ (AllByRecursion DeclaresFew fs × AllByRecursion RefersFew fs)
 files_nil fs = Iff.trans (all_nil surplus_in_file (λ f. DeclaresFew f × RefersFew f) surplus_in_files file_nil refl (λ _ _. refl) fs) (all_both DeclaresFew RefersFew fs)

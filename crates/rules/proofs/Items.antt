@@ -1,5 +1,6 @@
 -- No item shows a rule's place exactly if each item meets the rule.
-use Rattle.std.proofs.Common.{◌≡◌, ℕ, true, ◌↔◌, List, [], Decides, All, refl}
+use Rattle.std.proofs.Common.{◌≡◌, ℕ, true, ◌↔◌, List, [], Decides, refl}
+use Rattle.std.specs.List.{AllByRecursion}
 use mathlib.Core.Logic.Iff
 use Rattle.text.proofs.NamesDecided.{identifier-Decides, dotted-Decides}
 use Rattle.text.proofs.NumbersDecided.{int-Decides, float-Decides}
@@ -39,14 +40,14 @@ attribute-meets (dotted_name p s) = always []
 attribute-meets (literal p c) = always []
 attribute-meets (declared p b) = unless_nil b p
 
-items_nil : (rule : Item → List ℕ) (P : Item → Type 0) → ((i : Item) → (rule i ≡ []) ↔ P i) → (is : List Item) → (places_of rule is ≡ []) ↔ All P is
+items_nil : (rule : Item → List ℕ) (P : Item → Type 0) → ((i : Item) → (rule i ≡ []) ↔ P i) → (is : List Item) → (places_of rule is ≡ []) ↔ AllByRecursion P is
 items_nil rule P each is = all_nil rule P (places_of rule) each refl (λ _ _. refl) is
 
-pub names-meet : (is : List Item) → (places_of broken_name is ≡ []) ↔ All NameMeets is
+pub names-meet : (is : List Item) → (places_of broken_name is ≡ []) ↔ AllByRecursion NameMeets is
 names-meet is = items_nil broken_name NameMeets name_meets is
 
-pub values-meet : (is : List Item) → (places_of broken_value is ≡ []) ↔ All ValueMeets is
+pub values-meet : (is : List Item) → (places_of broken_value is ≡ []) ↔ AllByRecursion ValueMeets is
 values-meet is = items_nil broken_value ValueMeets value-meets is
 
-pub attributes-meet : (is : List Item) → (places_of empty_attribute is ≡ []) ↔ All AttributeMeets is
+pub attributes-meet : (is : List Item) → (places_of empty_attribute is ≡ []) ↔ AllByRecursion AttributeMeets is
 attributes-meet is = items_nil empty_attribute AttributeMeets attribute-meets is

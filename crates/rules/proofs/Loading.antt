@@ -1,5 +1,6 @@
 -- The verdict accepts exactly the models that load.
-use Rattle.std.proofs.Common.{◌≡◌, ℕ, zero, suc, ◌≤◌, Bool, true, false, cond, eqb, ltb, ◌↔◌, List, [], map, length, All, refl, ap, ◌∙◌, subst, inl, inr, arith}
+use Rattle.std.proofs.Common.{◌≡◌, ℕ, zero, suc, ◌≤◌, Bool, true, false, cond, eqb, ltb, ◌↔◌, List, [], map, length, refl, ap, ◌∙◌, subst, inl, inr, arith}
+use Rattle.std.specs.List.{AllByRecursion}
 use mathlib.Core.Logic.Iff
 use lib.ListN.{length-map}
 use Rattle.std.proofs.lemmas.Bool.{cases_Bool, both_ways, eqb-false, ltb-false, ne_eqb, le-ltb}
@@ -36,10 +37,10 @@ judged-meets m =
       λ h. ((h.root, h.names), (h.values, (h.siblings, (h.attributes, ((h.modules, (h.declared, h.references)), refl))))),
     )
   where
-    names : (broken_names m ≡ []) ↔ ((module_name m ≡ builtins → ⊥) × All NameMeets (module_items m))
+    names : (broken_names m ≡ []) ↔ ((module_name m ≡ builtins → ⊥) × AllByRecursion NameMeets (module_items m))
     names = Iff.trans (append_nil_both (root_name m) (places_of broken_name (module_items m))) (Iff.and (root-meets m) (names-meet (module_items m)))
 
-    few : (surplus m ≡ []) ↔ ((length (files m) ≤ 128) × (All DeclaresFew (files m) × All RefersFew (files m)))
+    few : (surplus m ≡ []) ↔ ((length (files m) ≤ 128) × (AllByRecursion DeclaresFew (files m) × AllByRecursion RefersFew (files m)))
     few = Iff.trans (append_nil_both (surplus_modules m) (surplus_in_files (files m))) (Iff.and (modules-meet m) (files_nil (files m)))
 
 sized : (b : Bool) (v : Verdict) → (cond b (refused 1 0) v ≡ accepted) ↔ ((b ≡ false) × (v ≡ accepted))

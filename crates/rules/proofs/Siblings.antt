@@ -1,7 +1,8 @@
 -- No module repeats the name of a sibling exactly if each module's own submodules have different names.
-use Rattle.std.proofs.Common.{◌≡◌, ℕ, ◌+◌, ◌<◌, ◌≤◌, Bool, true, false, cond, eqb, ◌⊎◌, ◌↔◌, List, [], ◌∷◌, ◌++◌, map, Some, None, All, Option, sym, refl, ap, ◌∙◌, subst, inl, inr, arith}
+use Rattle.std.proofs.Common.{◌≡◌, ℕ, ◌+◌, ◌<◌, ◌≤◌, Bool, true, false, cond, eqb, ◌⊎◌, ◌↔◌, List, [], ◌∷◌, ◌++◌, map, Some, None, Option, sym, refl, ap, ◌∙◌, subst, inl, inr, arith}
+use Rattle.std.specs.List.{AllByRecursion}
 use mathlib.Core.Logic.Iff
-use Rattle.std.proofs.lemmas.List.Elements.{All-weaker, All-append}
+use Rattle.text.proofs.Each.{each_weaker, each-append}
 use Rattle.std.proofs.lemmas.Bool.{cases_Bool, both_ways, or_parts, or_from}
 use Rattle.std.proofs.lemmas.Bool.Decides.{Decides-and, Decides-like, Decides-eqb}
 use Rattle.model.specs.Tree.{Text, Module, Modules, pymodule, no_module, add_module}
@@ -14,10 +15,10 @@ use Rattle.rules.proofs.Counts.{Same, keys, same_text}
 
 -- x is none of these
 abbrev pub Fresh : {K : Type 0} → K → List K → Type 0
-Fresh x ys = All (λ y. x ≡ y → ⊥) ys
+Fresh x ys = AllByRecursion (λ y. x ≡ y → ⊥) ys
 
 abbrev pub Apart : {K : Type 0} → List K → List K → Type 0
-Apart xs ys = All (λ x. Fresh x ys) xs
+Apart xs ys = AllByRecursion (λ x. Fresh x ys) xs
 
 abbrev pub NoTwice : {K : Type 0} → List K → Type 0
 NoTwice [] = Unit {0}
@@ -55,11 +56,11 @@ module _ {K : Type 0} (same : K → K → Bool) (decides : Same same) where
         λ h. both.1 (here.1 h.0.0, rest.1 (split.1 (back x.key (keys xs) h.1.0, h.0.1), h.1.1)),
       )
     where
-      turned : (k : K) (ks : List K) → All (λ z. z ≡ k → ⊥) ks → Fresh k ks
-      turned k ks h = All-weaker (λ z. z ≡ k → ⊥) (λ z. k ≡ z → ⊥) (λ z f e. f (sym e)) ks h
+      turned : (k : K) (ks : List K) → AllByRecursion (λ z. z ≡ k → ⊥) ks → Fresh k ks
+      turned k ks h = each_weaker (λ z. z ≡ k → ⊥) (λ z. k ≡ z → ⊥) (λ z f e. f (sym e)) ks h
 
-      back : (k : K) (ks : List K) → Fresh k ks → All (λ z. z ≡ k → ⊥) ks
-      back k ks h = All-weaker (λ z. k ≡ z → ⊥) (λ z. z ≡ k → ⊥) (λ z f e. f (sym e)) ks h
+      back : (k : K) (ks : List K) → Fresh k ks → AllByRecursion (λ z. z ≡ k → ⊥) ks
+      back k ks h = each_weaker (λ z. k ≡ z → ⊥) (λ z. z ≡ k → ⊥) (λ z f e. f (sym e)) ks h
 
   pub repeats_nil : (xs : List (Keyed K)) → (repeats same xs ≡ []) ↔ NoTwice (keys xs)
   repeats_nil xs = let r = repeats-after [] xs in (λ e. (r.0 e).1, λ h. r.1 (alone (keys xs), h))
@@ -149,27 +150,27 @@ below : (k n : ℕ) (x : Key) → Ranges (k + 1) (k + 1 + n) (Some k) x → Insi
 below k n x (inl e) = subst (Inside k (k + (1 + n))) (sym e) (omega arith, omega arith)
 below k n x (inr i) = inside_wider (k + 1) (k + 1 + n) k (k + (1 + n)) x.0 (omega arith) (omega arith) i
 
-all-below : (ms : Modules) (k : ℕ) → All (Ranges (k + 1) (k + 1 + modules_in ms) (Some k)) (keys_in_of ms (k + 1) (Some k)) → All (λ x. Inside k (k + (1 + modules_in ms)) x.0) (keys_in_of ms (k + 1) (Some k))
+all-below : (ms : Modules) (k : ℕ) → AllByRecursion (Ranges (k + 1) (k + 1 + modules_in ms) (Some k)) (keys_in_of ms (k + 1) (Some k)) → AllByRecursion (λ x. Inside k (k + (1 + modules_in ms)) x.0) (keys_in_of ms (k + 1) (Some k))
 all-below ms k h =
-    All-weaker (Ranges (k + 1) (k + 1 + modules_in ms) (Some k)) (λ x. Inside k (k + (1 + modules_in ms)) x.0) (below k (modules_in ms)) (keys_in_of ms (k + 1) (Some k)) h
+    each_weaker (Ranges (k + 1) (k + 1 + modules_in ms) (Some k)) (λ x. Inside k (k + (1 + modules_in ms)) x.0) (below k (modules_in ms)) (keys_in_of ms (k + 1) (Some k)) h
 
 mutual
-  ranges_of : (m : Module) (k : ℕ) (h : Option ℕ) → All (Ranges k (k + modules_within m) h) (keys_of m k h)
+  ranges_of : (m : Module) (k : ℕ) (h : Option ℕ) → AllByRecursion (Ranges k (k + modules_within m) h) (keys_of m k h)
   ranges_of (pymodule p s modules own classes functions attributes) k h =
-      (inl refl, All-weaker (λ x. Inside k (k + (1 + modules_in modules)) x.0) (Ranges k (k + (1 + modules_in modules)) h) (λ x i. inr i) (keys_in_of modules (k + 1) (Some k)) (all-below modules k (ranges_in modules (k + 1) (Some k))))
+      (inl refl, each_weaker (λ x. Inside k (k + (1 + modules_in modules)) x.0) (Ranges k (k + (1 + modules_in modules)) h) (λ x i. inr i) (keys_in_of modules (k + 1) (Some k)) (all-below modules k (ranges_in modules (k + 1) (Some k))))
 
-  ranges_in : (ms : Modules) (k : ℕ) (h : Option ℕ) → All (Ranges k (k + modules_in ms) h) (keys_in_of ms k h)
+  ranges_in : (ms : Modules) (k : ℕ) (h : Option ℕ) → AllByRecursion (Ranges k (k + modules_in ms) h) (keys_in_of ms k h)
   ranges_in no_module k h = tt
   ranges_in (add_module m ms) k h =
       let w : ℕ = modules_within m in
       let n : ℕ = modules_in ms in
       let R : Key → Type 0 = Ranges k (k + (w + n)) h in
-      All-append R (keys_of m k h) (keys_in_of ms (k + w) h)
-      (All-weaker (Ranges k (k + w) h) R (λ x r. ranges_wider k (k + w) k (k + (w + n)) h x (omega arith) (omega arith) r) (keys_of m k h) (ranges_of m k h))
-      (All-weaker (Ranges (k + w) (k + w + n) h) R (λ x r. ranges_wider (k + w) (k + w + n) k (k + (w + n)) h x (omega arith) (omega arith) r) (keys_in_of ms (k + w) h) (ranges_in ms (k + w) h))
+      each-append R (keys_of m k h) (keys_in_of ms (k + w) h)
+      (each_weaker (Ranges k (k + w) h) R (λ x r. ranges_wider k (k + w) k (k + (w + n)) h x (omega arith) (omega arith) r) (keys_of m k h) (ranges_of m k h))
+      (each_weaker (Ranges (k + w) (k + w + n) h) R (λ x r. ranges_wider (k + w) (k + w + n) k (k + (w + n)) h x (omega arith) (omega arith) r) (keys_in_of ms (k + w) h) (ranges_in ms (k + w) h))
 
 -- the keys under a module whose number is k
-below_in : (ms : Modules) (k : ℕ) → All (λ x. Inside k (k + (1 + modules_in ms)) x.0) (keys_in_of ms (k + 1) (Some k))
+below_in : (ms : Modules) (k : ℕ) → AllByRecursion (λ x. Inside k (k + (1 + modules_in ms)) x.0) (keys_in_of ms (k + 1) (Some k))
 below_in ms k = all-below ms k (ranges_in ms (k + 1) (Some k))
 
 abbrev names_of : Modules → List Text
@@ -178,7 +179,7 @@ names_of ms = map module_name (listed_modules ms)
 -- a key held by h is none of the keys under a module whose number is behind h
 fresh_below : (ms : Modules) (k : ℕ) (h : Option ℕ) (s : Text) → Before k h → Fresh (h, s) (keys_in_of ms (k + 1) (Some k))
 fresh_below ms k h s b =
-    All-weaker (λ (x : Key). Inside k (k + (1 + modules_in ms)) x.0) (λ (x : Key). (h, s) ≡ x → ⊥)
+    each_weaker (λ (x : Key). Inside k (k + (1 + modules_in ms)) x.0) (λ (x : Key). (h, s) ≡ x → ⊥)
     (λ x i e. outside k k (k + (1 + modules_in ms)) h x.0 (omega arith) b i (ap (λ z. z.0) e)) (keys_in_of ms (k + 1) (Some k)) (below_in ms k)
 
 -- so it is new among siblings exactly if its name is
@@ -197,8 +198,8 @@ apart-later : (sub ms : Modules) (k : ℕ) (h : Option ℕ) → Before k h → A
 apart-later sub ms k h b =
     let w : ℕ = 1 + modules_in sub in
     let n : ℕ = modules_in ms in
-    All-weaker (λ (x : Key). Inside k (k + w) x.0) (λ (x : Key). Fresh x (keys_in_of ms (k + w) h))
-    (λ x i. All-weaker (Ranges (k + w) (k + w + n) h) (λ (y : Key). x ≡ y → ⊥) (λ y r e. clash x y i r (ap (λ z. z.0) e)) (keys_in_of ms (k + w) h) (ranges_in ms (k + w) h))
+    each_weaker (λ (x : Key). Inside k (k + w) x.0) (λ (x : Key). Fresh x (keys_in_of ms (k + w) h))
+    (λ x i. each_weaker (Ranges (k + w) (k + w + n) h) (λ (y : Key). x ≡ y → ⊥) (λ y r e. clash x y i r (ap (λ z. z.0) e)) (keys_in_of ms (k + w) h) (ranges_in ms (k + w) h))
     (keys_in_of sub (k + 1) (Some k)) (below_in sub k)
   where
     clash : (x y : Key) → Inside k (k + (1 + modules_in sub)) x.0 → Ranges (k + (1 + modules_in sub)) (k + (1 + modules_in sub) + modules_in ms) h y → x.0 ≡ y.0 → ⊥
@@ -215,12 +216,12 @@ abbrev pub SiblingsDiffer : Module → Type 0
 SiblingsDiffer f = AllDifferent (map module_name (submodules f))
 
 mutual
-  twice_of : (m : Module) (k : ℕ) (h : Option ℕ) → Before k h → NoTwice (keys_of m k h) ↔ All SiblingsDiffer (files m)
+  twice_of : (m : Module) (k : ℕ) (h : Option ℕ) → Before k h → NoTwice (keys_of m k h) ↔ AllByRecursion SiblingsDiffer (files m)
   twice_of (pymodule p s sub own classes functions attributes) k h b =
       let r = twice_in sub (k + 1) (Some k) (omega arith) in
       (λ t. r.0 t.1, λ a. (fresh_below sub k h s b, r.1 a))
 
-  twice_in : (ms : Modules) (k : ℕ) (h : Option ℕ) → Before k h → NoTwice (keys_in_of ms k h) ↔ (AllDifferent (names_of ms) × All SiblingsDiffer (files_in ms))
+  twice_in : (ms : Modules) (k : ℕ) (h : Option ℕ) → Before k h → NoTwice (keys_in_of ms k h) ↔ (AllDifferent (names_of ms) × AllByRecursion SiblingsDiffer (files_in ms))
   twice_in no_module k h b = (λ t. (tt, tt), λ t. tt)
   twice_in (add_module m ms) k h b =
       let w : ℕ = modules_within m in
@@ -233,6 +234,6 @@ mutual
         λ a. let f = both.0 a.1 in parts.1 ((one.1 f.0, rest.1 (a.0.1, f.1)), next.1 a.0.0),
       )
 
-pub siblings_nil : (m : Module) → (repeated_modules m ≡ []) ↔ All SiblingsDiffer (files m)
+pub siblings_nil : (m : Module) → (repeated_modules m ≡ []) ↔ AllByRecursion SiblingsDiffer (files m)
 siblings_nil m =
     Iff.trans (subst (λ ks. (repeated_modules m ≡ []) ↔ NoTwice ks) (keys_of_lem m 0 None) (repeats_nil same_held same-held (map held_key (helds m 0 None)))) (twice_of m 0 None tt)

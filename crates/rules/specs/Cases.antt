@@ -1,5 +1,6 @@
 -- Worked cases: models in bytes, each with its verdict and its number of files.
-use Rattle.std.specs.Prelude.{◌≡◌, ℕ, zero, suc, ◌+◌, ◌/◌, ◌%◌, List, [], ◌∷◌, length, replicate, All}
+use Rattle.std.specs.Prelude.{◌≡◌, ℕ, zero, suc, ◌+◌, ◌/◌, ◌%◌, List, [], ◌∷◌, length, replicate}
+use Rattle.std.specs.List.{AllByRecursion}
 use Rattle.model.specs.Tree.{Module}
 use Rattle.model.specs.Read.{Out, read, fault, model}
 use Rattle.model.specs.Files.{files}
@@ -25,7 +26,7 @@ abbrev pub Holds : Case → Type 0
 Holds c = (verdict c.bytes ≡ c.gives) × (files_count c.bytes ≡ c.count)
 
 abbrev pub CasesHold : List Case → Type 0
-CasesHold cs = All Holds cs
+CasesHold cs = AllByRecursion Holds cs
 
 -- n submodules of names that differ, the first of them by number k
 abbrev pub spread : ℕ → ℕ → List ℕ

@@ -1,5 +1,6 @@
 -- The rules on a model, in words: which models load.
-use Rattle.std.specs.Prelude.{◌≡◌, ℕ, ◌≤◌, true, ◌↔◌, List, [], ◌∷◌, map, length, All, ◌≢◌}
+use Rattle.std.specs.Prelude.{◌≡◌, ℕ, ◌≤◌, true, ◌↔◌, List, [], ◌∷◌, map, length, ◌≢◌}
+use Rattle.std.specs.List.{AllByRecursion}
 use Rattle.text.specs.Names.{Identifier, Dotted}
 use Rattle.text.specs.Numbers.{Int, Float}
 use Rattle.text.specs.Utf8.{Utf8}
@@ -52,7 +53,7 @@ submodules (pymodule p s modules own classes functions attributes) = listed_modu
 -- no text comes twice
 abbrev pub AllDifferent : List Text → Type 0
 AllDifferent [] = Unit {0}
-AllDifferent (s ∷ ss) = All (λ t. s ≢ t) ss × AllDifferent ss
+AllDifferent (s ∷ ss) = AllByRecursion (λ t. s ≢ t) ss × AllDifferent ss
 
 abbrev pub declared_names : Module → List Text
 declared_names (pymodule p s modules own classes functions attributes) =
@@ -64,14 +65,14 @@ references (pymodule p s modules own classes functions attributes) =
 
 -- a tree meets the rules
 pub record Meets (m : Module) : Type 0 where
-  pub names : All NameMeets (module_items m)
+  pub names : AllByRecursion NameMeets (module_items m)
   pub root : module_name m ≡ builtins → ⊥
-  pub values : All ValueMeets (module_items m)
-  pub siblings : All (λ f. AllDifferent (map module_name (submodules f))) (files m)
-  pub attributes : All AttributeMeets (module_items m)
+  pub values : AllByRecursion ValueMeets (module_items m)
+  pub siblings : AllByRecursion (λ f. AllDifferent (map module_name (submodules f))) (files m)
+  pub attributes : AllByRecursion AttributeMeets (module_items m)
   pub modules : length (files m) ≤ 128
-  pub declared : All (λ f. distinct same_text_of (declared_names f) ≤ 512) (files m)
-  pub references : All (λ f. distinct same_reference (references f) ≤ 512) (files m)
+  pub declared : AllByRecursion (λ f. distinct same_text_of (declared_names f) ≤ 512) (files m)
+  pub references : AllByRecursion (λ f. distinct same_reference (references f) ≤ 512) (files m)
 
 -- a model loads: it has at least one byte and at most 16,384, describes a tree, and the tree meets the rules
 pub record Loads (bs : List ℕ) : Type 0 where

@@ -1,5 +1,6 @@
 -- A text of whole lines, and one line more.
-use Rattle.std.proofs.Common.{◌≡◌, ℕ, ◌+◌, ◌≤◌, cond, eqb, List, [], ◌∷◌, ◌++◌, length, drop, All, sym, refl, ap, ◌∙◌, append_assoc, arith, length-append}
+use Rattle.std.proofs.Common.{◌≡◌, ℕ, ◌+◌, ◌≤◌, cond, eqb, List, [], ◌∷◌, ◌++◌, length, drop, sym, refl, ap, ◌∙◌, append_assoc, arith, length-append}
+use Rattle.std.specs.List.{AllByRecursion}
 use Rattle.std.proofs.lemmas.Bool.{cond_both, eqb-false, ne_eqb}
 use Rattle.sink.specs.Sinks.{Plain}
 use Rattle.std.proofs.lemmas.List.{drop-append-le, drop_at, same_from_push}
@@ -11,19 +12,19 @@ lines-line [] rest p = refl
 lines-line (b ∷ l) rest p = rw (ne_eqb b 10 p.0, lines-line l rest p.1) refl
 
 -- a text is cut into the lines that it was written from
-pub lines-written : (ls : List (List ℕ)) (rest : List ℕ) → All Plain ls → lines_in (written ls ++ rest) ≡ ls ++ lines_in rest
+pub lines-written : (ls : List (List ℕ)) (rest : List ℕ) → AllByRecursion Plain ls → lines_in (written ls ++ rest) ≡ ls ++ lines_in rest
 lines-written [] rest p = refl
 lines-written (l ∷ ls) rest p =
     ap lines_in (append_assoc l (10 ∷ written ls) rest) ∙ lines-line l (written ls ++ rest) p.0 ∙ ap (λ x. l ∷ x) (lines-written ls rest p.1)
 
-begin-plain : (b : ℕ) (ls : List (List ℕ)) → (b ≡ 10 → ⊥) → All Plain ls → All Plain (begin b ls)
+begin-plain : (b : ℕ) (ls : List (List ℕ)) → (b ≡ 10 → ⊥) → AllByRecursion Plain ls → AllByRecursion Plain (begin b ls)
 begin-plain b [] n p = ((n, tt), tt)
 begin-plain b (l ∷ ls) n p = ((n, p.0), p.1)
 
-pub lines-plain : (bs : List ℕ) → All Plain (lines_in bs)
+pub lines-plain : (bs : List ℕ) → AllByRecursion Plain (lines_in bs)
 lines-plain [] = tt
 lines-plain (b ∷ bs) =
-    cond_both (eqb b 10) ([] ∷ lines_in bs) (begin b (lines_in bs)) (All Plain) (λ e. (tt, lines-plain bs)) (λ e. begin-plain b (lines_in bs) (eqb-false b 10 e) (lines-plain bs))
+    cond_both (eqb b 10) ([] ∷ lines_in bs) (begin b (lines_in bs)) (AllByRecursion Plain) (λ e. (tt, lines-plain bs)) (λ e. begin-plain b (lines_in bs) (eqb-false b 10 e) (lines-plain bs))
 
 pub lines_more : (text line : List ℕ) → Whole text → Plain line → lines_in (text ++ (line ++ (10 ∷ []))) ≡ lines_in text ++ (line ∷ [])
 lines_more text line w p =

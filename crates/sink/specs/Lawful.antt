@@ -1,5 +1,6 @@
 -- Runs that fit, and runs that match, are as the laws of sinks want them.
-use Rattle.std.specs.Prelude.{◌≡◌, ℕ, ◌≤◌, List, [], ◌∷◌, ◌++◌, length, take, All, refl}
+use Rattle.std.specs.Prelude.{◌≡◌, ℕ, ◌≤◌, List, [], ◌∷◌, ◌++◌, length, take, refl}
+use Rattle.std.specs.List.{AllByRecursion}
 use Rattle.std.proofs.Common.{arith, sym, ap, ◌∙◌, append_assoc, length-append, take-take, take_at}
 use Rattle.sink.specs.Sinks.{Plain, SinkLaws}
 use Rattle.sink.specs.Texts.{written, Fitting, Matching}
@@ -11,7 +12,7 @@ written_append (l ∷ rs) more = ap (λ t. l ++ (10 ∷ t)) (written_append rs m
 pub written_longer : (rs more : List (List ℕ)) → length (written rs) ≤ length (written (rs ++ more))
 written_longer rs more = omega (arith, ap length (written_append rs more), length-append (written rs) (written more))
 
-all-front : (rs more : List (List ℕ)) → All Plain (rs ++ more) → All Plain rs
+all-front : (rs more : List (List ℕ)) → AllByRecursion Plain (rs ++ more) → AllByRecursion Plain rs
 all-front [] more p = tt
 all-front (l ∷ rs) more p = (p.0, all-front rs more p.1)
 

@@ -1,10 +1,11 @@
 -- What a sink means: the lines that it has taken, and the runs of further lines that it would take.
-use Rattle.std.specs.Prelude.{◌≡◌, ℕ, suc, List, [], ◌∷◌, ◌++◌, take, Ok, Err, All, Result, ◌≢◌}
+use Rattle.std.specs.Prelude.{◌≡◌, ℕ, suc, List, [], ◌∷◌, ◌++◌, take, Ok, Err, Result, ◌≢◌}
+use Rattle.std.specs.List.{AllByRecursion}
 use Rattle.sink.specs.declared.meaning.Refusal.{Refusal}
 
 -- no byte of the line is a newline
 abbrev pub Plain : List ℕ → Type 0
-Plain line = All (λ b. b ≢ 10) line
+Plain line = AllByRecursion (λ b. b ≢ 10) line
 
 -- two predicates hold of the same runs
 pub record Same (P Q : List (List ℕ) → Type 0) : Type 0 where
@@ -15,7 +16,7 @@ pub record Same (P Q : List (List ℕ) → Type 0) : Type 0 where
 pub record SinkLaws {S : Type 0} (takes : S → List (List ℕ) → Type 0) : Type 0 where
   pub none : (s : S) → takes s []
   pub front : (s : S) (rs more : List (List ℕ)) → takes s (rs ++ more) → takes s rs
-  pub plain : (s : S) (rs : List (List ℕ)) → takes s rs → All Plain rs
+  pub plain : (s : S) (rs : List (List ℕ)) → takes s rs → AllByRecursion Plain rs
 
 -- a run is taken: it would be, it ends the list, and the runs are now those that followed it
 pub record Taking (before : List (List ℕ)) (runs : List (List ℕ) → Type 0) (ls : List (List ℕ)) (after : List (List ℕ)) (runs' : List (List ℕ) → Type 0) : Type 0 where

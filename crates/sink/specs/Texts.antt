@@ -1,5 +1,6 @@
 -- Lines as a text: each with a newline.
-use Rattle.std.specs.Prelude.{◌≡◌, ℕ, ◌≤◌, cond, List, [], ◌∷◌, ◌++◌, length, take, All, ◌==◌}
+use Rattle.std.specs.Prelude.{◌≡◌, ℕ, ◌≤◌, cond, List, [], ◌∷◌, ◌++◌, length, take, ◌==◌}
+use Rattle.std.specs.List.{AllByRecursion}
 use Rattle.sink.specs.Sinks.{Plain}
 
 abbrev pub written : List (List ℕ) → List ℕ
@@ -22,11 +23,11 @@ Whole bs = written (lines_in bs) ≡ bs
 
 -- the runs that, so written, fit into so many bytes
 abbrev pub Fitting : ℕ → List (List ℕ) → Type 0
-Fitting room rs = All Plain rs × (length (written rs) ≤ room)
+Fitting room rs = AllByRecursion Plain rs × (length (written rs) ≤ room)
 
 -- the runs that, so written, are a beginning of the text
 abbrev pub Matching : List ℕ → List (List ℕ) → Type 0
-Matching text rs = All Plain rs × (take (length (written rs)) text ≡ written rs)
+Matching text rs = AllByRecursion Plain rs × (take (length (written rs)) text ≡ written rs)
 
 -- where such a text has a last byte, that is a newline
 abbrev pub TextsEnd : Type 0

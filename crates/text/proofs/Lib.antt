@@ -1,4 +1,5 @@
 mod Steps
+pub mod Each
 pub mod NamesDecided
 pub mod NumbersDecided
 pub mod Utf8Decided

@@ -1,9 +1,11 @@
 -- The tests on names tell what the rules on names say.
-use Rattle.std.proofs.Common.{◌≡◌, ℕ, ◌≤◌, Bool, true, not, ◌&&◌, eqb, leb, List, [], ◌∷◌, ◌++◌, length, Decides, All, Contains, sym, refl, ap, ◌∙◌, subst, inl, inr, append_assoc, arith}
+use Rattle.std.proofs.Common.{◌≡◌, ℕ, ◌≤◌, Bool, true, not, ◌&&◌, eqb, leb, List, [], ◌∷◌, ◌++◌, length, Decides, Contains, sym, refl, ap, ◌∙◌, subst, inl, inr, append_assoc, arith}
+use Rattle.std.specs.List.{AllByRecursion}
 use mathlib.Core.Bool.{false≢true}
 use Rattle.std.specs.Int.{IsInRange}
 use Rattle.std.specs.Str.{bytes_eq}
-use Rattle.std.proofs.lemmas.List.Elements.{All-weaker}
+use Rattle.std.proofs.lemmas.List.Elements.{All-from_recursion, recursion_from_All, Decides-contains}
+use Rattle.text.proofs.Each.{each_weaker}
 use Rattle.std.proofs.lemmas.Slice.Eq.{bytes_eq-Decides}
 use Rattle.std.proofs.lemmas.List.{append-nil}
 use Rattle.std.proofs.lemmas.Bool.{and_from, and_parts, cases_Bool, eqb-true, leb-true, le-leb, ne_eqb}
@@ -31,28 +33,30 @@ first_byte-Decides b = Decides-or (letter b) (eqb b 95) (letter-Decides b) (Deci
 pub later_byte-Decides : (b : ℕ) → Decides (later_byte b) (LaterByte b)
 later_byte-Decides b = Decides-or (first_byte b) (digit b) (first_byte-Decides b) (digit-Decides b)
 
-pub every-Decides : (test : ℕ → Bool) (P : ℕ → Type 0) → ((b : ℕ) → Decides (test b) (P b)) → (s : List ℕ) → Decides (every test s) (All P s)
-every-Decides test P each s = Decides-by_and test P (every test) each refl (λ _ _. refl) s
+pub every-Decides : (test : ℕ → Bool) (P : ℕ → Type 0) → ((b : ℕ) → Decides (test b) (P b)) → (s : List ℕ) → Decides (every test s) (AllByRecursion P s)
+every-Decides test P each s =
+    Decides-like (every test s) (recursion_from_All P s) (All-from_recursion P s) (Decides-by_and test P (every test) each refl (λ _ _. refl) s)
 
 -- identifiers
 
 pub keyword-Decides : (s : List ℕ) → Decides (keyword s) (Contains keywords s)
 unfolding keyword
-keyword-Decides s = Decides-by_or (λ w. bytes_eq w s) (λ w. w ≡ s) (λ ws. among ws s) (λ w. bytes_eq-Decides w s) refl (λ _ _. refl) keywords
+keyword-Decides s =
+    Decides-contains keywords s (among keywords s) (Decides-by_or (λ w. bytes_eq w s) (λ w. w ≡ s) (λ ws. among ws s) (λ w. bytes_eq-Decides w s) refl (λ _ _. refl) keywords)
 
 record Spelled (s : List ℕ) : Type 0 where
   first : ℕ
   later : List ℕ
   is : s ≡ first ∷ later
   starts : FirstByte first
-  goes_on : All LaterByte later
+  goes_on : AllByRecursion LaterByte later
 
 spelled-Decides : (s : List ℕ) → Decides (spelled s) (Spelled s)
 spelled-Decides [] = (λ e. absurd (false≢true e), λ p. absurd (omega (arith, ap length p.is)))
 spelled-Decides (b ∷ bs) =
     Decides-like (first_byte b && every later_byte bs)
     (λ p. record { first = b; later = bs; is = refl; starts = p.0; goes_on = p.1 })
-    (λ p. let e : p.first ≡ b = cc p.is in let f : p.later ≡ bs = cc p.is in (subst FirstByte e p.starts, subst (All LaterByte) f p.goes_on))
+    (λ p. let e : p.first ≡ b = cc p.is in let f : p.later ≡ bs = cc p.is in (subst FirstByte e p.starts, subst (AllByRecursion LaterByte) f p.goes_on))
     (Decides-and (first_byte b) (every later_byte bs) (first_byte-Decides b) (every-Decides later_byte LaterByte later_byte-Decides bs))
 
 pub identifier-Decides : (s : List ℕ) → Decides (identifier s) (Identifier s)
@@ -73,16 +77,16 @@ later_no_dot b (inl (inl (inr p))) e = omega arith
 later_no_dot b (inl (inr p)) e = omega arith
 later_no_dot b (inr p) e = omega arith
 
-pub no_dots : (s : List ℕ) → Identifier s → All (λ b. b ≡ 46 → ⊥) s
+pub no_dots : (s : List ℕ) → Identifier s → AllByRecursion (λ b. b ≡ 46 → ⊥) s
 no_dots s p =
-    subst (All (λ b. b ≡ 46 → ⊥)) (sym p.is)
-    (later_no_dot p.first (inl p.starts), All-weaker LaterByte (λ b. b ≡ 46 → ⊥) later_no_dot p.later p.goes_on)
+    subst (AllByRecursion (λ b. b ≡ 46 → ⊥)) (sym p.is)
+    (later_no_dot p.first (inl p.starts), each_weaker LaterByte (λ b. b ≡ 46 → ⊥) later_no_dot p.later p.goes_on)
 
 record Joined (s : List ℕ) : Type 0 where
   name : List ℕ
   more : List (List ℕ)
   is : s ≡ joined_by_dots name more
-  identifiers : All Identifier (name ∷ more)
+  identifiers : AllByRecursion Identifier (name ∷ more)
 
 joined_from_parts : (part s : List ℕ) → parts part s ≡ true → Joined (part ++ s)
 joined_from_parts part [] e = record { name = part; more = []; is = append-nil part; identifiers = ((identifier-Decides part).0 e, tt) }
@@ -102,12 +106,12 @@ joined_from_parts part (b ∷ bs) e =
           subst Joined (append_assoc part (b ∷ []) bs) (joined_from_parts (part ++ b ∷ []) bs on))
     ]
 
-parts-run : (part name s : List ℕ) → All (λ b. b ≡ 46 → ⊥) name → parts part (name ++ s) ≡ parts (part ++ name) s
+parts-run : (part name s : List ℕ) → AllByRecursion (λ b. b ≡ 46 → ⊥) name → parts part (name ++ s) ≡ parts (part ++ name) s
 parts-run part [] s h = ap (λ x. parts x s) (sym (append-nil part))
 parts-run part (b ∷ bs) s h =
     rw (ne_eqb b 46 h.0) (parts-run (part ++ b ∷ []) bs s h.1 ∙ ap (λ x. parts x s) (append_assoc part (b ∷ []) bs))
 
-parts-joined : (name : List ℕ) (more : List (List ℕ)) → All Identifier (name ∷ more) → parts [] (joined_by_dots name more) ≡ true
+parts-joined : (name : List ℕ) (more : List (List ℕ)) → AllByRecursion Identifier (name ∷ more) → parts [] (joined_by_dots name more) ≡ true
 parts-joined name [] h =
     ap (parts []) (sym (append-nil name)) ∙ (parts-run [] name [] (no_dots name h.0) ∙ (identifier-Decides name).1 h.0)
 parts-joined name (next ∷ more) h =

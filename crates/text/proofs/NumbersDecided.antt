@@ -1,8 +1,9 @@
 -- The tests on numbers tell what the rules on numbers say.
-use Rattle.std.proofs.Common.{◌≡◌, ℕ, suc, ◌+◌, ◌<◌, true, false, eqb, ltb, ◌⊎◌, List, [], ◌∷◌, ◌++◌, length, take, drop, Decides, All, sym, refl, ap, ◌∙◌, subst, inl, inr, arith}
+use Rattle.std.proofs.Common.{◌≡◌, ℕ, suc, ◌+◌, ◌<◌, true, false, eqb, ltb, ◌⊎◌, List, [], ◌∷◌, ◌++◌, length, take, drop, Decides, sym, refl, ap, ◌∙◌, subst, inl, inr, arith}
+use Rattle.std.specs.List.{AllByRecursion}
 use mathlib.Core.Bool.{false≢true}
 use Rattle.std.proofs.lemmas.List.{nil_from_length, length-append, take_at}
-use Rattle.std.proofs.lemmas.List.Elements.{All-weaker}
+use Rattle.text.proofs.Each.{each_weaker}
 use Rattle.std.proofs.lemmas.Bool.{and_from, and_parts, cases_Bool, cond-false, eqb-true, eqb-false, eq-eqb, ne_eqb, lt-ltb, ltb-true}
 use Rattle.text.specs.Names.{digit, Digit}
 use Rattle.text.specs.Numbers.{unsigned, digits, some_digits, natural, int, dot_at_of, fractional, float}
@@ -11,14 +12,14 @@ use Rattle.text.proofs.NamesDecided.{digit-Decides, every-Decides}
 
 -- digits
 
-pub digits-Decides : (s : List ℕ) → Decides (digits s) (All Digit s)
+pub digits-Decides : (s : List ℕ) → Decides (digits s) (AllByRecursion Digit s)
 digits-Decides s = every-Decides digit Digit digit-Decides s
 
 pub some_digits-Decides : (s : List ℕ) → Decides (some_digits s) (SomeDigits s)
 some_digits-Decides [] = (λ e. absurd (false≢true e), λ p. absurd (omega (arith, ap length p.is)))
 some_digits-Decides (b ∷ bs) = (
   λ e. record { first = b; more = bs; is = refl; all = (digits-Decides (b ∷ bs)).0 e },
-  λ p. (digits-Decides (b ∷ bs)).1 (subst (All Digit) (sym p.is) p.all),
+  λ p. (digits-Decides (b ∷ bs)).1 (subst (AllByRecursion Digit) (sym p.is) p.all),
 )
 
 -- a sign
@@ -57,12 +58,12 @@ natural-Decides (b ∷ bs) =
     alone t (inl e) = eq-eqb (length bs) 0 (omega (arith, ap length e))
     alone t (inr p) = let f : p.first ≡ b = cc p.is in absurd (omega (arith, p.not-zero, eqb-true b 48 t))
 
-    positive : eqb b 48 ≡ false → All Digit (b ∷ bs) → Positive (b ∷ bs)
-    positive t h = let ne : b ≡ 48 → ⊥ = eqb-false b 48 t in record { first = b; more = bs; is = refl; not-zero = (omega (arith, h.0), h.0.1); all = h }
+    positive : eqb b 48 ≡ false → AllByRecursion Digit (b ∷ bs) → Positive (b ∷ bs)
+    positive t h = let ne : b ≡ 48 → ⊥ = eqb-false b 48 t in record { first = b; more = bs; is = refl; not-zero = (omega (arith, h.0), h.0.1); all = h.1 }
 
-    each : eqb b 48 ≡ false → (b ∷ bs ≡ 48 ∷ []) ⊎ Positive (b ∷ bs) → All Digit (b ∷ bs)
+    each : eqb b 48 ≡ false → (b ∷ bs ≡ 48 ∷ []) ⊎ Positive (b ∷ bs) → AllByRecursion Digit (b ∷ bs)
     each t (inl e) = let f : b ≡ 48 = cc e in absurd (eqb-false b 48 t f)
-    each t (inr p) = subst (All Digit) (sym p.is) ((omega (arith, p.not-zero), p.not-zero.1), p.all)
+    each t (inr p) = subst (AllByRecursion Digit) (sym p.is) ((omega (arith, p.not-zero), p.not-zero.1), p.all)
 
 pub int-Decides : (s : List ℕ) → Decides (int s) (Int s)
 unfolding int
@@ -88,7 +89,7 @@ dot_splits (b ∷ bs) l =
       | inr t ↦ rw t (ap (λ x. b ∷ x) (dot_splits bs (let z : suc (dot_at_of bs) < suc (length bs) = rw t at l in omega arith)))
     ]
 
-pub dot_at-after : (s rest : List ℕ) → All (λ b. b ≡ 46 → ⊥) s → dot_at_of (s ++ 46 ∷ rest) ≡ length s
+pub dot_at-after : (s rest : List ℕ) → AllByRecursion (λ b. b ≡ 46 → ⊥) s → dot_at_of (s ++ 46 ∷ rest) ≡ length s
 dot_at-after [] rest h = refl
 dot_at-after (b ∷ bs) rest h = rw (ne_eqb b 46 h.0) (ap suc (dot_at-after bs rest h.1))
 
@@ -97,7 +98,7 @@ digit_no_dot b h e = omega arith
 
 fractional-from : (s whole fraction : List ℕ) → s ≡ whole ++ 46 ∷ fraction → SomeDigits whole → SomeDigits fraction → fractional s ≡ true
 fractional-from s whole fraction is w f =
-    let no_dots : All (λ b. b ≡ 46 → ⊥) whole = All-weaker Digit (λ b. b ≡ 46 → ⊥) digit_no_dot whole (subst (All Digit) (sym w.is) w.all) in
+    let no_dots : AllByRecursion (λ b. b ≡ 46 → ⊥) whole = each_weaker Digit (λ b. b ≡ 46 → ⊥) digit_no_dot whole (subst (AllByRecursion Digit) (sym w.is) w.all) in
     let at : dot_at_of s ≡ length whole = ap dot_at_of is ∙ dot_at-after whole fraction no_dots in
     let size : length s ≡ length whole + suc (length fraction) = ap length is ∙ length-append whole (46 ∷ fraction) in
     and_from _ _

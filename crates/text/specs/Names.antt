@@ -1,5 +1,6 @@
 -- Names as Python writes them: identifiers, and identifiers joined by dots.
-use Rattle.std.specs.Prelude.{◌≡◌, ℕ, ◌≤◌, Bool, true, false, cond, not, ◌&&◌, ◌||◌, ◌⊎◌, List, [], ◌∷◌, ◌++◌, length, codes, All, Contains, ◌==◌, nat_le}
+use Rattle.std.specs.Prelude.{◌≡◌, ℕ, ◌≤◌, Bool, true, false, cond, not, ◌&&◌, ◌||◌, ◌⊎◌, List, [], ◌∷◌, ◌++◌, length, codes, Contains, ◌==◌, nat_le}
+use Rattle.std.specs.List.{AllByRecursion}
 use Rattle.std.specs.Int.{IsInRange}
 use Rattle.std.specs.Str.{bytes_eq}
 
@@ -68,7 +69,7 @@ pub record Identifier (s : List ℕ) : Type 0 where
   pub later : List ℕ
   pub is : s ≡ first ∷ later
   pub starts : FirstByte first
-  pub goes_on : All LaterByte later
+  pub goes_on : AllByRecursion LaterByte later
   pub short : length s ≤ 64
   pub not_reserved : Contains keywords s → ⊥
 
@@ -90,5 +91,5 @@ pub record Dotted (s : List ℕ) : Type 0 where
   pub name : List ℕ
   pub more : List (List ℕ)
   pub is : s ≡ joined_by_dots name more
-  pub identifiers : All Identifier (name ∷ more)
+  pub identifiers : AllByRecursion Identifier (name ∷ more)
   pub short : length s ≤ 255

@@ -1,5 +1,6 @@
 -- Numbers as Python writes them in decimal: integers, and floats without an exponent.
-use Rattle.std.specs.Prelude.{◌≡◌, ℕ, suc, Bool, false, cond, ◌&&◌, ◌⊎◌, List, [], ◌∷◌, ◌++◌, length, take, drop, All, ◌==◌, nat_lt}
+use Rattle.std.specs.Prelude.{◌≡◌, ℕ, suc, Bool, false, cond, ◌&&◌, ◌⊎◌, List, [], ◌∷◌, ◌++◌, length, take, drop, ◌==◌, nat_lt}
+use Rattle.std.specs.List.{AllByRecursion}
 use Rattle.std.specs.Int.{IsInRange}
 use Rattle.text.specs.Names.{digit, every, Digit}
 
@@ -23,7 +24,7 @@ pub record SomeDigits (s : List ℕ) : Type 0 where
   pub first : ℕ
   pub more : List ℕ
   pub is : s ≡ first ∷ more
-  pub all : All Digit (first ∷ more)
+  pub all : AllByRecursion Digit (first ∷ more)
 
 -- Integers: 0, or digits of which the first is not 0
 
@@ -39,7 +40,7 @@ pub record Positive (s : List ℕ) : Type 0 where
   pub more : List ℕ
   pub is : s ≡ first ∷ more
   pub not-zero : IsInRange 49 57 first
-  pub all : All Digit more
+  pub all : AllByRecursion Digit more
 
 pub record Int (s : List ℕ) : Type 0 where
   pub sign : List ℕ

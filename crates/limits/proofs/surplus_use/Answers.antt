@@ -7,7 +7,7 @@ loop-u-init c = c.new-walk.ensures Surplus
 
 pub loop-u-preserved : goal.loop-u-preserved
 loop-u-preserved c =
-    met_more use_entry Surplus c.args.uses.now c.loop-u.u-index _ c.loop-u.walk c.meet.new.self c.loop-u-test.true c.in-ok-meet.ensures c.loop-u.invariant
+    met_more use_entry Surplus c.args.uses.now c.loop-u.u-index _ c.loop-u.walk c.meet.new.self c.loop-u-test.true c.in_ok-meet.ensures c.loop-u.invariant
 
 pub returns : goal.returns
 returns c = uses-all c.args.uses.now c.loop-u.u-index c.loop-u.walk c.loop-u-test.false c.loop-u.invariant

@@ -16,7 +16,7 @@ blank = record { from = record { ref_ptr = (0, 0); now = [] }; name = record { r
 pub loop-r-init : goal.loop-r-init
 loop-r-init c =
     let none = btree-map-empty by_texts c.new-renaming.result c.new-renaming.ensures.keys c.new-renaming.ensures.vals in
-    folds_none _ _ c.in-ok-binder.binder c.new-renaming.result (declared-sound _ _ c.in-ok-binder.binder c.in-ok-binder.ensures) none.0 none.1 c.in-ok-binder.ensures.bindings
+    folds_none _ _ c.in_ok-binder.binder c.new-renaming.result (declared-sound _ _ c.in_ok-binder.binder c.in_ok-binder.ensures) none.0 none.1 c.in_ok-binder.ensures.bindings
 
 pub bind-requires : goal.bind-requires
 bind-requires c = c.loop-r.invariant.sound
@@ -26,15 +26,15 @@ loop-r-preserved c =
     let r = get_or c.args.references.now c.loop-r.r-index blank in
     folds_more _ (map pair_of c.args.references.now) c.loop-r.r-index (pair_of blank) c.loop-r.binder c.bind.new.self c.loop-r.renaming c.insert.new.self r c.in-Some.name
     (omega (arith, length-map c.args.references.now pair_of, c.loop-r-test.true)) (get_or-map pair_of c.args.references.now c.loop-r.r-index blank) c.loop-r.invariant
-    (binds_some c.loop-r.binder c.bind.new.self _ _ c.in-ok-bound.bound c.in-Some.name (ap (λ w. (r.from.now, w)) c.split-root.ensures.root) c.in-Some.is c.in-ok-bound.ensures)
-    c.in-ok-insert.ensures.inserted.3
+    (binds_some c.loop-r.binder c.bind.new.self _ _ c.in_ok-bound.bound c.in-Some.name (ap (λ w. (r.from.now, w)) c.split_root.ensures.root) c.in-Some.is c.in_ok-bound.ensures)
+    c.in_ok-insert.ensures.inserted.3
 
-pub returns-in-default : goal.returns-in-default
-returns-in-default c =
+pub returns-in_default : goal.returns-in_default
+returns-in_default c =
     let r = get_or c.args.references.now c.loop-r.r-index blank in
     folds_stop _ (map pair_of c.args.references.now) c.loop-r.r-index (pair_of blank) c.loop-r.binder c.loop-r.renaming r
     (omega (arith, length-map c.args.references.now pair_of, c.loop-r-test.true)) (get_or-map pair_of c.args.references.now c.loop-r.r-index blank) c.loop-r.invariant
-    (binds_none c.loop-r.binder c.bind.new.self _ _ c.in-ok-bound.bound (ap (λ w. (r.from.now, w)) c.split-root.ensures.root) c.in-default.is c.in-ok-bound.ensures)
+    (binds_none c.loop-r.binder c.bind.new.self _ _ c.in_ok-bound.bound (ap (λ w. (r.from.now, w)) c.split_root.ensures.root) c.in_default.is c.in_ok-bound.ensures)
 
 pub returns : goal.returns
 returns c =

@@ -9,7 +9,7 @@ declare-requires c = only-declared c.args.own.now _ c.loop-d.binder c.loop-d.inv
 
 pub loop-d-preserved : goal.loop-d-preserved
 loop-d-preserved c =
-    declares-more c.args.own.now c.args.declared.now c.loop-d.d-index _ c.loop-d.binder c.declare.new.self c.loop-d-test.true c.loop-d.invariant c.in-ok-declare.ensures
+    declares-more c.args.own.now c.args.declared.now c.loop-d.d-index _ c.loop-d.binder c.declare.new.self c.loop-d-test.true c.loop-d.invariant c.in_ok-declare.ensures
 
 pub returns : goal.returns
 returns c = declares-all c.args.own.now c.args.declared.now c.loop-d.d-index c.loop-d.binder c.loop-d-test.false c.loop-d.invariant

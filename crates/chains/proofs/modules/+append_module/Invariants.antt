@@ -1,4 +1,4 @@
 use Rattle.chains.proofs.modules.+append_module.Given as goal
 
-abbrev pub decreases-append-module : goal.decreases-append-module
-decreases-append-module l = l.depth
+abbrev pub decreases-append_module : goal.decreases-append_module
+decreases-append_module l = l.depth

@@ -23,8 +23,8 @@ returns-in-7 c = rw c.in-7.is refl
 pub returns-in-8 : goal.returns-in-8
 returns-in-8 c = rw c.in-8.is refl
 
-pub returns-in-default : goal.returns-in-default
-returns-in-default c =
+pub returns-in_default : goal.returns-in_default
+returns-in_default c =
     let apart : (n : ℕ) → (c.args.number ≡ n → ⊥) → eqb c.args.number n ≡ false = apart_eqb c.args.number in
     rw (
       apart 1 (omega arith),

@@ -2,8 +2,8 @@ use Rattle.std.proofs.Common.{vec_items}
 use Rattle.imports.proofs.Going.{writes_as}
 use Rattle.imports.proofs.lines.append_import.Goals as goal
 
-pub returns-in-ok-extend-from-slice-3 : goal.returns-in-ok-extend-from-slice-3
-returns-in-ok-extend-from-slice-3 c =
-    writes_as (vec_items c.args.out.now) (vec_items c.extend-from-slice.new.self) (vec_items c.extend-from-slice-then-not-same.new.self) _
+pub returns-in_ok-extend_from_slice-3 : goal.returns-in_ok-extend_from_slice-3
+returns-in_ok-extend_from_slice-3 c =
+    writes_as (vec_items c.args.out.now) (vec_items c.extend_from_slice.new.self) (vec_items c.extend_from_slice-then-not-same.new.self) _
     c.args.root.now c.args.name.now c.if-not-same.ensures
-    c.in-ok-extend-from-slice.ensures.items c.in-ok-extend-from-slice-2.ensures.items c.in-ok-extend-from-slice-3.ensures.items
+    c.in_ok-extend_from_slice.ensures.items c.in_ok-extend_from_slice-2.ensures.items c.in_ok-extend_from_slice-3.ensures.items

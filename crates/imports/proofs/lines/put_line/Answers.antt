@@ -3,8 +3,8 @@ use Rattle.std.proofs.lemmas.Bool.{eqb-false}
 use Rattle.imports.proofs.Growing.{puts_line}
 use Rattle.imports.proofs.lines.put_line.Goals as goal
 
-pub returns-in-ok-insert : goal.returns-in-ok-insert
-returns-in-ok-insert c =
-    puts_line c.args.lines.now c.insert.new.self c.args.line c.in-ok-insert.field-0
-    (λ none. eqb-false (vec_len c.args.line) 0 (sym c.if-not-is-empty.ensures) (c.args.line.ok.0 ∙ none))
-    c.in-ok-insert.ensures.inserted
+pub returns-in_ok-insert : goal.returns-in_ok-insert
+returns-in_ok-insert c =
+    puts_line c.args.lines.now c.insert.new.self c.args.line c.in_ok-insert.field-0
+    (λ none. eqb-false (vec_len c.args.line) 0 (sym c.if-not-is_empty.ensures) (c.args.line.ok.0 ∙ none))
+    c.in_ok-insert.ensures.inserted

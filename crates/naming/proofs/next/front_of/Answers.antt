@@ -7,11 +7,11 @@ loop-at-init c = (omega arith, front-start c.args.name.now)
 
 pub loop-at-preserved : goal.loop-at-preserved
 loop-at-preserved c =
-    (omega arith, front-step c.args.name.now c.loop-at.at (omega arith) c.loop-at.invariant.0 c.if-is-ascii-digit.ensures.value c.loop-at.invariant.1)
+    (omega arith, front-step c.args.name.now c.loop-at.at (omega arith) c.loop-at.invariant.0 c.if-is_ascii_digit.ensures.value c.loop-at.invariant.1)
 
-pub returns-else-is-ascii-digit : goal.returns-else-is-ascii-digit
-returns-else-is-ascii-digit c =
-    front_stop c.args.name.now c.loop-at.at (omega arith) c.loop-at.invariant.0 c.if-is-ascii-digit.ensures.value c.loop-at.invariant.1
+pub returns-else-is_ascii_digit : goal.returns-else-is_ascii_digit
+returns-else-is_ascii_digit c =
+    front_stop c.args.name.now c.loop-at.at (omega arith) c.loop-at.invariant.0 c.if-is_ascii_digit.ensures.value c.loop-at.invariant.1
 
 pub returns-after-loop-at : goal.returns-after-loop-at
 returns-after-loop-at c = front-none c.args.name.now c.loop-at.at (omega arith) c.loop-at.invariant.1

@@ -9,5 +9,5 @@ returns-then-not-same c = λ ns h. lacks-none c.args.own.now ns (use_of c.args.u
 
 pub returns : goal.returns
 returns c = λ ns h.
-    lacks-root c.args.own.now ns (use_of c.args.u.now) c.args.names.now c.split-root.result.0 c.contains.result
-    c.if-not-same.ensures c.split-root.ensures.root (c.contains.ensures.finds c.split-root.result.0 refl by_bytes h.lawful) h
+    lacks-root c.args.own.now ns (use_of c.args.u.now) c.args.names.now c.split_root.result.0 c.contains.result
+    c.if-not-same.ensures c.split_root.ensures.root (c.contains.ensures.finds c.split_root.result.0 refl by_bytes h.lawful) h

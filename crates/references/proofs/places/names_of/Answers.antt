@@ -8,8 +8,8 @@ loop-d-init c = keeps_none by_bytes (λ x. x.now) same_text_of c.new-names.resul
 
 pub loop-d-preserved : goal.loop-d-preserved
 loop-d-preserved c =
-    names_more c.args.declared.now c.loop-d.d-index _ c.loop-d.names c.insert.new.self c.in-ok-insert.field-0
-    c.loop-d-test.true c.in-ok-insert.ensures.inserted c.loop-d.invariant
+    names_more c.args.declared.now c.loop-d.d-index _ c.loop-d.names c.insert.new.self c.in_ok-insert.field-0
+    c.loop-d-test.true c.in_ok-insert.ensures.inserted c.loop-d.invariant
 
 pub returns : goal.returns
 returns c = names-all c.args.declared.now c.loop-d.d-index c.loop-d.names c.loop-d-test.false c.loop-d.invariant

@@ -14,8 +14,8 @@ loop-u-init c = keeps_none by_texts pair_of same_reference c.new-set.result c.ne
 
 pub loop-u-preserved : goal.loop-u-preserved
 loop-u-preserved c =
-    references-more c.args.uses.now c.loop-u.u-index _ c.loop-u.set c.insert.new.self c.in-ok-insert.field-0
-    c.loop-u-test.true c.in-ok-insert.ensures.inserted c.loop-u.invariant
+    references-more c.args.uses.now c.loop-u.u-index _ c.loop-u.set c.insert.new.self c.in_ok-insert.field-0
+    c.loop-u-test.true c.in_ok-insert.ensures.inserted c.loop-u.invariant
 
 pub returns : goal.returns
 returns c =

@@ -10,25 +10,25 @@ use Rattle.resolver.proofs.names.resolve.Goals as goal
 pub returns-in-Some : goal.returns-in-Some
 returns-in-Some c =
     let o = own_in c.args.model.now c.args.file in
-    refused-undeclared c.args.own.now (declared_in o) (map declared_of c.as-slice-declared.result.now) (uses_in o) (map use_of c.as-slice-uses.result.now)
-    (ap (map declared_of) c.as-slice-declared.ensures.value ∙ c.in-ok-found.ensures.declared) (ap (map use_of) c.as-slice-uses.ensures.value ∙ c.in-ok-found.ensures.uses)
-    c.in-ok-undeclared.undeclared c.in-ok-undeclared.ensures c.in-Some.place c.in-Some.is
+    refused-undeclared c.args.own.now (declared_in o) (map declared_of c.as_slice-declared.result.now) (uses_in o) (map use_of c.as_slice-uses.result.now)
+    (ap (map declared_of) c.as_slice-declared.ensures.value ∙ c.in_ok-found.ensures.declared) (ap (map use_of) c.as_slice-uses.ensures.value ∙ c.in_ok-found.ensures.uses)
+    c.in_ok-undeclared.undeclared c.in_ok-undeclared.ensures c.in-Some.place c.in-Some.is
 
 pub returns-in-Named : goal.returns-in-Named
 returns-in-Named c =
     let o = own_in c.args.model.now c.args.file in
-    resolved-names c.args.own.now (declared_in o) (map declared_of c.as-slice-declared.result.now) (uses_in o) (map use_of c.as-slice-uses.result.now)
-    (ap (map declared_of) c.as-slice-declared.ensures.value ∙ c.in-ok-found.ensures.declared) (ap (map use_of) c.as-slice-uses.ensures.value ∙ c.in-ok-found.ensures.uses)
-    c.in-ok-undeclared.undeclared c.in-ok-undeclared.ensures c.in-default.is
-    (map pair_of c.as-slice.result.now) (ap (map pair_of) c.as-slice.ensures.value ∙ c.in-ok-references.ensures) c.in-Named.names
-    (subst (BindsNames c.args.own.now (map name_of (map declared_of c.as-slice-declared.result.now)) (map pair_of c.as-slice.result.now)) c.in-Named.is c.in-ok-names.ensures)
+    resolved-names c.args.own.now (declared_in o) (map declared_of c.as_slice-declared.result.now) (uses_in o) (map use_of c.as_slice-uses.result.now)
+    (ap (map declared_of) c.as_slice-declared.ensures.value ∙ c.in_ok-found.ensures.declared) (ap (map use_of) c.as_slice-uses.ensures.value ∙ c.in_ok-found.ensures.uses)
+    c.in_ok-undeclared.undeclared c.in_ok-undeclared.ensures c.in_default.is
+    (map pair_of c.as_slice.result.now) (ap (map pair_of) c.as_slice.ensures.value ∙ c.in_ok-references.ensures) c.in-Named.names
+    (subst (BindsNames c.args.own.now (map name_of (map declared_of c.as_slice-declared.result.now)) (map pair_of c.as_slice.result.now)) c.in-Named.is c.in_ok-names.ensures)
 
 pub returns : goal.returns
 returns c =
     let o = own_in c.args.model.now c.args.file in
-    refused-exhausted c.args.own.now (declared_in o) (map declared_of c.as-slice-declared.result.now) (uses_in o) (map use_of c.as-slice-uses.result.now)
-    (ap (map declared_of) c.as-slice-declared.ensures.value ∙ c.in-ok-found.ensures.declared) (ap (map use_of) c.as-slice-uses.ensures.value ∙ c.in-ok-found.ensures.uses)
-    c.in-ok-undeclared.undeclared c.in-ok-undeclared.ensures c.in-default.is
-    (map pair_of c.as-slice.result.now) (ap (map pair_of) c.as-slice.ensures.value ∙ c.in-ok-references.ensures) (pair_of c.in-Exhausted.reference)
-    (subst (BindsNames c.args.own.now (map name_of (map declared_of c.as-slice-declared.result.now)) (map pair_of c.as-slice.result.now)) c.in-Exhausted.is c.in-ok-names.ensures)
-    c.first-use.result c.unwrap-or-place.result c.first-use.ensures c.unwrap-or-place.ensures
+    refused-exhausted c.args.own.now (declared_in o) (map declared_of c.as_slice-declared.result.now) (uses_in o) (map use_of c.as_slice-uses.result.now)
+    (ap (map declared_of) c.as_slice-declared.ensures.value ∙ c.in_ok-found.ensures.declared) (ap (map use_of) c.as_slice-uses.ensures.value ∙ c.in_ok-found.ensures.uses)
+    c.in_ok-undeclared.undeclared c.in_ok-undeclared.ensures c.in_default.is
+    (map pair_of c.as_slice.result.now) (ap (map pair_of) c.as_slice.ensures.value ∙ c.in_ok-references.ensures) (pair_of c.in-Exhausted.reference)
+    (subst (BindsNames c.args.own.now (map name_of (map declared_of c.as_slice-declared.result.now)) (map pair_of c.as_slice.result.now)) c.in-Exhausted.is c.in_ok-names.ensures)
+    c.first_use.result c.unwrap_or-place.result c.first_use.ensures c.unwrap_or-place.ensures

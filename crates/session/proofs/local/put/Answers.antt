@@ -7,4 +7,4 @@ returns-then-buffer-all c = (no_room c.args.bound.now c.args.rest.now (length c.
 
 pub returns : goal.returns
 returns c =
-    put_both c.args.bound.now c.args.rest.now c.args.buffer.now c.copy-from-slice.new.self c.copy-from-slice-2.new.self c.copy-from-slice.ensures.after c.copy-from-slice-2.ensures.after c.if-buffer-all.false
+    put_both c.args.bound.now c.args.rest.now c.args.buffer.now c.copy_from_slice.new.self c.copy_from_slice-2.new.self c.copy_from_slice.ensures.after c.copy_from_slice-2.ensures.after c.if-buffer-all.false

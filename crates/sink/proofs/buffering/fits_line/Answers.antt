@@ -5,4 +5,4 @@ pub returns-then-line-room : goal.returns-then-line-room
 returns-then-line-room c = fits_not c.args.room c.args.line.now c.if-line-room.true
 
 pub returns : goal.returns
-returns c = fits_if_plain c.args.room c.args.line.now c.is-plain.result c.if-line-room.false c.is-plain.ensures
+returns c = fits_if_plain c.args.room c.args.line.now c.is_plain.result c.if-line-room.false c.is_plain.ensures

@@ -5,8 +5,8 @@ use Rattle.text.proofs.Steps.{dotted_long, dotted-rest}
 use Rattle.text.proofs.NamesDecided.{dotted-Decides}
 use Rattle.text.proofs.names.is_dotted_name.Goals as goal
 
-pub returns-then-s-gt-LONGEST-DOTTED-NAME : goal.returns-then-s-gt-LONGEST-DOTTED-NAME
-returns-then-s-gt-LONGEST-DOTTED-NAME c =
+pub returns-then-s-gt-LONGEST_DOTTED_NAME : goal.returns-then-s-gt-LONGEST_DOTTED_NAME
+returns-then-s-gt-LONGEST_DOTTED_NAME c =
     let v : false ≡ dotted c.args.s.now = dotted_long c.args.s.now (omega arith) in
     record { value = v; decides = Decides-at _ _ v (dotted-Decides c.args.s.now) }
 

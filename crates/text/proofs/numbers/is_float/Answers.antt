@@ -13,21 +13,21 @@ returns-then-dot-magnitude c =
     ∙ ap fractional c.after_sign-magnitude.ensures in
     record { value = v; decides = Decides-at _ _ v (float-Decides c.args.s.now) }
 
-pub returns-then-are-some-digits : goal.returns-then-are-some-digits
+pub returns-then-are_some_digits : goal.returns-then-are_some_digits
 unfolding float
-returns-then-are-some-digits c =
-    let l : c.dot-at-dot.result < length c.after-sign-magnitude.result.now = omega arith in
-    let v : c.are-some-digits-then-are-some-digits.result ≡ float c.args.s.now =
-    c.are-some-digits-then-are-some-digits.ensures
-    ∙ (fractional-rest c.after-sign-magnitude.result.now c.dot-at-dot.result c.dot-at-dot.ensures.value l c.if-are-some-digits.ensures
-    ∙ ap fractional c.after-sign-magnitude.ensures) in
+returns-then-are_some_digits c =
+    let l : c.dot_at-dot.result < length c.after_sign-magnitude.result.now = omega arith in
+    let v : c.are_some_digits-then-are_some_digits.result ≡ float c.args.s.now =
+    c.are_some_digits-then-are_some_digits.ensures
+    ∙ (fractional-rest c.after_sign-magnitude.result.now c.dot_at-dot.result c.dot_at-dot.ensures.value l c.if-are_some_digits.ensures
+    ∙ ap fractional c.after_sign-magnitude.ensures) in
     record { value = v; decides = Decides-at _ _ v (float-Decides c.args.s.now) }
 
-pub returns-else-are-some-digits : goal.returns-else-are-some-digits
+pub returns-else-are_some_digits : goal.returns-else-are_some_digits
 unfolding float
-returns-else-are-some-digits c =
-    let v : c.are-some-digits.result ≡ float c.args.s.now =
-    c.if-are-some-digits.false
-    ∙ (fractional_no_whole c.after-sign-magnitude.result.now c.dot-at-dot.result c.dot-at-dot.ensures.value c.if-are-some-digits.ensures
-    ∙ ap fractional c.after-sign-magnitude.ensures) in
+returns-else-are_some_digits c =
+    let v : c.are_some_digits.result ≡ float c.args.s.now =
+    c.if-are_some_digits.false
+    ∙ (fractional_no_whole c.after_sign-magnitude.result.now c.dot_at-dot.result c.dot_at-dot.ensures.value c.if-are_some_digits.ensures
+    ∙ ap fractional c.after_sign-magnitude.ensures) in
     record { value = v; decides = Decides-at _ _ v (float-Decides c.args.s.now) }

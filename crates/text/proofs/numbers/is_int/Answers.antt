@@ -14,10 +14,10 @@ returns-in-48 c =
     c.is_empty.ensures ∙ (natural-zero c.after_sign-magnitude.result.now some zero ∙ ap natural c.after_sign-magnitude.ensures) in
     record { value = v; decides = Decides-at _ _ v (int-Decides c.args.s.now) }
 
-pub returns-in-default : goal.returns-in-default
+pub returns-in_default : goal.returns-in_default
 unfolding int
-returns-in-default c =
-    let other : (length c.after-sign-magnitude.result.now ≡ 0) ⊎ (get_or c.after-sign-magnitude.result.now 0 0 ≡ 48 → ⊥) = search rules in
-    let v : c.are-some-digits.result ≡ int c.args.s.now =
-    c.are-some-digits.ensures ∙ (natural_other c.after-sign-magnitude.result.now other ∙ ap natural c.after-sign-magnitude.ensures) in
+returns-in_default c =
+    let other : (length c.after_sign-magnitude.result.now ≡ 0) ⊎ (get_or c.after_sign-magnitude.result.now 0 0 ≡ 48 → ⊥) = search rules in
+    let v : c.are_some_digits.result ≡ int c.args.s.now =
+    c.are_some_digits.ensures ∙ (natural_other c.after_sign-magnitude.result.now other ∙ ap natural c.after_sign-magnitude.ensures) in
     record { value = v; decides = Decides-at _ _ v (int-Decides c.args.s.now) }

@@ -6,18 +6,18 @@ use Rattle.text.proofs.Utf8Decided.{utf8-Decides}
 use Rattle.text.proofs.utf8.is_utf8.Goals as goal
 use Rattle.text.proofs.utf8.is_utf8.Goals.{then-lacking-gt0+else-not-is_within, else-lacking-gt0+else-not-is_lead}
 
-pub returns-then-not-is-within : goal.returns-then-not-is-within
+pub returns-then-not-is_within : goal.returns-then-not-is_within
 unfolding utf8
-returns-then-not-is-within c =
+returns-then-not-is_within c =
     let v : false ≡ utf8 c.args.s.now =
-    sym (c.loop-b.invariant ∙ tail_fails c.args.s.now c.loop-b.b-index c.loop-b.lacking c.loop-b.low c.loop-b.high c.loop-b-test.true c.if-lacking-gt0.true c.if-not-is-within.ensures) in
+    sym (c.loop-b.invariant ∙ tail_fails c.args.s.now c.loop-b.b-index c.loop-b.lacking c.loop-b.low c.loop-b.high c.loop-b-test.true c.if-lacking-gt0.true c.if-not-is_within.ensures) in
     record { value = v; decides = Decides-at _ _ v (utf8-Decides c.args.s.now) }
 
-pub returns-then-not-is-lead : goal.returns-then-not-is-lead
+pub returns-then-not-is_lead : goal.returns-then-not-is_lead
 unfolding utf8
-returns-then-not-is-lead c =
+returns-then-not-is_lead c =
     let v : false ≡ utf8 c.args.s.now =
-    sym (c.loop-b.invariant ∙ lead_fails c.args.s.now c.loop-b.b-index c.loop-b.lacking c.loop-b.low c.loop-b.high c.loop-b-test.true c.if-lacking-gt0.false c.if-not-is-lead.ensures) in
+    sym (c.loop-b.invariant ∙ lead_fails c.args.s.now c.loop-b.b-index c.loop-b.lacking c.loop-b.low c.loop-b.high c.loop-b-test.true c.if-lacking-gt0.false c.if-not-is_lead.ensures) in
     record { value = v; decides = Decides-at _ _ v (utf8-Decides c.args.s.now) }
 
 pub loop-b-preserved : goal.loop-b-preserved
@@ -27,8 +27,8 @@ loop-b-preserved c =
           (let e = tail_more c.args.s.now c.loop-b.b-index c.loop-b.lacking c.loop-b.low c.loop-b.high c.loop-b-test.true w.if-lacking-gt0.true w.if-not-is_within.ensures in
           c.loop-b.invariant ∙ cc (e, w.lacking-is, w.low-is, w.high-is))
       | else-lacking-gt0+else-not-is_lead w ↦
-          (let e = lead-more c.args.s.now c.loop-b.b-index c.loop-b.lacking c.loop-b.low c.loop-b.high c.loop-b-test.true w.if-lacking-gt0.false w.if-not-is-lead.ensures in
-          c.loop-b.invariant ∙ cc (e, w.lacking-is, w.low-is, w.high-is, w.tails-of-lacking.ensures, w.lowest-after-low.ensures, w.highest-after-high.ensures))
+          (let e = lead-more c.args.s.now c.loop-b.b-index c.loop-b.lacking c.loop-b.low c.loop-b.high c.loop-b-test.true w.if-lacking-gt0.false w.if-not-is_lead.ensures in
+          c.loop-b.invariant ∙ cc (e, w.lacking-is, w.low-is, w.high-is, w.tails_of-lacking.ensures, w.lowest_after-low.ensures, w.highest_after-high.ensures))
     ]
 
 pub returns : goal.returns

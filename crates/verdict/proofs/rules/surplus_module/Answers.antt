@@ -6,4 +6,4 @@ pub returns-then-files-le-MODULES : goal.returns-then-files-le-MODULES
 returns-then-files-le-MODULES c = no_surplus c.args.files.now (omega arith)
 
 pub returns : goal.returns
-returns c = some-surplus c.args.files.now c.least-place.result c.least-place.ensures
+returns c = some-surplus c.args.files.now c.least_place.result c.least_place.ensures

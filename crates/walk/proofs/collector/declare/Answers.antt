@@ -6,4 +6,4 @@ use Rattle.walk.proofs.collector.declare.Goals as goal
 
 pub returns : goal.returns
 returns c =
-    ap (λ (xs : List Declared). map declared_of xs) c.in-ok-push.ensures.items ∙ map_push declared_of (vec_items c.args.declared.now) _
+    ap (λ (xs : List Declared). map declared_of xs) c.in_ok-push.ensures.items ∙ map_push declared_of (vec_items c.args.declared.now) _

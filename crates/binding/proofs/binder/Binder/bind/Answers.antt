@@ -10,26 +10,26 @@ use Rattle.binding.proofs.binder.Binder.bind.Goals as goal
 pub returns-in-Some : goal.returns-in-Some
 returns-in-Some c = bound-known c.args.self.now (pair_of c.args.target) c.in-Some.known c.requires c.in-Some.ensures
 
-pub returns-then-not-is-bound : goal.returns-then-not-is-bound
-returns-then-not-is-bound c =
+pub returns-then-not-is_bound : goal.returns-then-not-is_bound
+returns-then-not-is_bound c =
     let s = c.args.self.now in
     let t = pair_of c.args.target in
-    let none = none_shown (pool_of s) (name_of (bindings_in s) t) c.in-default.ensures in
-    bound_entered s c.enter-root.new.self t c.in-ok-root.root t.1 c.requires none
-    (taken-root (bindings_in s) t c.requires.lawful none c.if-not-is-bound.ensures) c.in-ok-root.ensures
+    let none = none_shown (pool_of s) (name_of (bindings_in s) t) c.in_default.ensures in
+    bound_entered s c.enter_root.new.self t c.in_ok-root.root t.1 c.requires none
+    (taken-root (bindings_in s) t c.requires.lawful none c.if-not-is_bound.ensures) c.in_ok-root.ensures
 
-pub returns-in-default-found : goal.returns-in-default-found
-returns-in-default-found c =
+pub returns-in_default-found : goal.returns-in_default-found
+returns-in_default-found c =
     let s = c.args.self.now in
     let t = pair_of c.args.target in
-    let none = none_shown (pool_of s) (name_of (bindings_in s) t) c.in-default.ensures in
+    let none = none_shown (pool_of s) (name_of (bindings_in s) t) c.in_default.ensures in
     step-none (bindings_in s) t c.requires.lawful
-    (taken_alias (bindings_in s) t c.requires.lawful none c.if-not-is-bound.ensures ∙ ap (λ k. free_from k (bindings_in s) (next_name t.1)) (as_many s) ∙ subst (FreeAlias (bindings_in s) t.1 (length (vec_items s.entries))) c.in-default-found.is c.in-ok-found.ensures)
+    (taken_alias (bindings_in s) t c.requires.lawful none c.if-not-is_bound.ensures ∙ ap (λ k. free_from k (bindings_in s) (next_name t.1)) (as_many s) ∙ subst (FreeAlias (bindings_in s) t.1 (length (vec_items s.entries))) c.in_default-found.is c.in_ok-found.ensures)
 
 pub returns : goal.returns
 returns c =
     let s = c.args.self.now in
     let t = pair_of c.args.target in
-    let none = none_shown (pool_of s) (name_of (bindings_in s) t) c.in-default.ensures in
-    bound_entered s c.enter-alias.new.self t c.in-ok-name.name (vec_items c.in-Some-found.alias) c.requires none
-    (taken_alias (bindings_in s) t c.requires.lawful none c.if-not-is-bound.ensures ∙ ap (λ k. free_from k (bindings_in s) (next_name t.1)) (as_many s) ∙ (subst (FreeAlias (bindings_in s) t.1 (length (vec_items s.entries))) c.in-Some-found.is c.in-ok-found.ensures).0) c.in-ok-name.ensures
+    let none = none_shown (pool_of s) (name_of (bindings_in s) t) c.in_default.ensures in
+    bound_entered s c.enter_alias.new.self t c.in_ok-name.name (vec_items c.in-Some-found.alias) c.requires none
+    (taken_alias (bindings_in s) t c.requires.lawful none c.if-not-is_bound.ensures ∙ ap (λ k. free_from k (bindings_in s) (next_name t.1)) (as_many s) ∙ (subst (FreeAlias (bindings_in s) t.1 (length (vec_items s.entries))) c.in-Some-found.is c.in_ok-found.ensures).0) c.in_ok-name.ensures

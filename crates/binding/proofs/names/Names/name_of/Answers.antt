@@ -8,7 +8,7 @@ use Rattle.binding.proofs.names.Names.name_of.Goals as goal
 pub returns-in-Some : goal.returns-in-Some
 returns-in-Some c =
     let s = c.args.self.now in
-    ap Some (c.text-of.ensures ∙ ap (λ pool. text_of pool c.in-Some.name.now) c.as-slice.ensures.value)
+    ap Some (c.text_of.ensures ∙ ap (λ pool. text_of pool c.in-Some.name.now) c.as_slice.ensures.value)
     ∙ ap (option_map (text_of (vec_items s.pool))) (c.in-Some.ensures.finds c.args.reference refl by_texts (btree-map-from-valid by_texts s.renaming s.sorted))
 
 pub returns-in-None : goal.returns-in-None

@@ -6,4 +6,4 @@ use Rattle.model.proofs.files.Listing.open.Goals as goal
 
 pub returns : goal.returns
 returns c =
-    record { files = c.in-ok-push.ensures.items; siblings = ap (λ (xs : List Sibling). map held_of xs) c.in-ok-push-2.ensures.items ∙ map_push held_of (vec_items c.args.self.now.siblings) _ }
+    record { files = c.in_ok-push.ensures.items; siblings = ap (λ (xs : List Sibling). map held_of xs) c.in_ok-push-2.ensures.items ∙ map_push held_of (vec_items c.args.self.now.siblings) _ }

@@ -9,12 +9,12 @@ class-returns-then-depth-eq0 t c =
 
 pub class-returns : goal.class-returns
 class-returns t c =
-    goes_by _ _ c.class-record.result _ _ (class-opened c.args.end c.args.depth c.args.self.now.at.rest.now c.args.self.now.found (λ z. omega arith)) c.class-record.ensures
+    goes_by _ _ c.class_record.result _ _ (class-opened c.args.end c.args.depth c.args.self.now.at.rest.now c.args.self.now.found (λ z. omega arith)) c.class_record.ensures
 
-pub classes-returns-in-err-class : goal.classes-returns-in-err-class
-classes-returns-in-err-class t c =
-    exits _ _ c.from-residual-in-err-class.result _ _ c.from-residual-in-err-class.ensures.1 (listed_by c.args.end (audit_class c.args.end c.args.depth) c.args.stands c.args.self.now.at.rest.now _ c.args.self.now.found c.in-ok-n.n _ c.if-not-stands.false c.in-ok-n.ensures (laps-fault (audit_class c.args.end c.args.depth) c.in-ok-n.n c.loop.counter _ _ _ _ (omega arith) c.loop.invariant c.in-err-class.ensures))
+pub classes-returns-in_err-class : goal.classes-returns-in_err-class
+classes-returns-in_err-class t c =
+    exits _ _ c.from_residual-in_err-class.result _ _ c.from_residual-in_err-class.ensures.1 (listed_by c.args.end (audit_class c.args.end c.args.depth) c.args.stands c.args.self.now.at.rest.now _ c.args.self.now.found c.in_ok-n.n _ c.if-not-stands.false c.in_ok-n.ensures (laps-fault (audit_class c.args.end c.args.depth) c.in_ok-n.n c.loop.counter _ _ _ _ (omega arith) c.loop.invariant c.in_err-class.ensures))
 
 pub classes-loop-preserved : goal.classes-loop-preserved
 classes-loop-preserved t c =
-    laps-read (audit_class c.args.end c.args.depth) c.in-ok-n.n c.loop.counter _ _ _ _ _ (omega arith) c.loop.invariant c.in-ok-class.ensures
+    laps-read (audit_class c.args.end c.args.depth) c.in_ok-n.n c.loop.counter _ _ _ _ _ (omega arith) c.loop.invariant c.in_ok-class.ensures

@@ -5,8 +5,8 @@ use Rattle.model.proofs.reader.Reader.+class_class_record_classes.Given as goal
 abbrev pub decreases-class : goal.decreases-class
 decreases-class l = 3 * l.depth
 
-abbrev pub decreases-class-record : goal.decreases-class-record
-decreases-class-record l = 3 * l.depth + 2
+abbrev pub decreases-class_record : goal.decreases-class_record
+decreases-class_record l = 3 * l.depth + 2
 
 abbrev pub decreases-classes : goal.decreases-classes
 decreases-classes l = 3 * l.depth + 1

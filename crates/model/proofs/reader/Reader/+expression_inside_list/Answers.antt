@@ -7,18 +7,18 @@ pub expression-returns-then-depth-eq0 : goal.expression-returns-then-depth-eq0
 expression-returns-then-depth-eq0 t c =
     expr_at-zero c.args.end c.args.depth c.place-place.result _ _ c.if-depth-eq0.true c.place-place.ensures
 
-pub expression-returns-in-err-head : goal.expression-returns-in-err-head
-expression-returns-in-err-head t c =
-    exits _ _ c.from-residual.result _ _ c.from-residual.ensures.1 (expr-fault c.args.end c.args.depth _ c.args.self.now.at.rest.now c.args.self.now.found (λ z. omega arith) c.in-err-head.ensures)
+pub expression-returns-in_err-head : goal.expression-returns-in_err-head
+expression-returns-in_err-head t c =
+    exits _ _ c.from_residual.result _ _ c.from_residual.ensures.1 (expr-fault c.args.end c.args.depth _ c.args.self.now.at.rest.now c.args.self.now.found (λ z. omega arith) c.in_err-head.ensures)
 
 pub expression-returns : goal.expression-returns
 expression-returns t c =
-    goes_by _ _ c.inside.result _ _ (expr-inside c.args.end c.args.depth c.place-place.result c.args.self.now.at.rest.now c.args.self.now.found _ c.next.new.self.rest.now _ _ (λ z. omega arith) c.place-place.ensures c.in-ok-head.ensures c.judge.ensures.found c.judge.ensures.rest) c.inside.ensures
+    goes_by _ _ c.inside.result _ _ (expr-inside c.args.end c.args.depth c.place-place.result c.args.self.now.at.rest.now c.args.self.now.found _ c.next.new.self.rest.now _ _ (λ z. omega arith) c.place-place.ensures c.in_ok-head.ensures c.judge.ensures.found c.judge.ensures.rest) c.inside.ensures
 
-pub list-returns-in-err-expression : goal.list-returns-in-err-expression
-list-returns-in-err-expression t c =
-    exits _ _ c.from-residual.result _ _ c.from-residual.ensures.1 (laps-fault (audit_expr c.args.end c.args.depth) c.args.n c.loop.counter _ _ _ _ (omega arith) c.loop.invariant c.in-err-expression.ensures)
+pub list-returns-in_err-expression : goal.list-returns-in_err-expression
+list-returns-in_err-expression t c =
+    exits _ _ c.from_residual.result _ _ c.from_residual.ensures.1 (laps-fault (audit_expr c.args.end c.args.depth) c.args.n c.loop.counter _ _ _ _ (omega arith) c.loop.invariant c.in_err-expression.ensures)
 
 pub list-loop-preserved : goal.list-loop-preserved
 list-loop-preserved t c =
-    laps-read (audit_expr c.args.end c.args.depth) c.args.n c.loop.counter _ _ _ _ _ (omega arith) c.loop.invariant c.in-ok-expression.ensures
+    laps-read (audit_expr c.args.end c.args.depth) c.args.n c.loop.counter _ _ _ _ _ (omega arith) c.loop.invariant c.in_ok-expression.ensures

@@ -6,8 +6,8 @@ use Rattle.model.proofs.reader.Reader.+module_module_record_modules.Given as goa
 abbrev pub decreases-module : goal.decreases-module
 decreases-module l = 3 * l.depth
 
-abbrev pub decreases-module-record : goal.decreases-module-record
-decreases-module-record l = 3 * l.depth + 2
+abbrev pub decreases-module_record : goal.decreases-module_record
+decreases-module_record l = 3 * l.depth + 2
 
 abbrev pub decreases-modules : goal.decreases-modules
 decreases-modules l = 3 * l.depth + 1

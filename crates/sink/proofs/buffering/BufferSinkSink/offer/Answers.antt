@@ -3,35 +3,35 @@ use Rattle.sink.specs.Texts.{Fitting}
 use Rattle.sink.proofs.Lines.{lines-few, length-line}
 use Rattle.sink.proofs.Offers.{fit_taken, fit_whole, fit_counted}
 use Rattle.sink.proofs.buffering.BufferSinkSink.offer.Goals as goal
-use Rattle.sink.proofs.buffering.BufferSinkSink.offer.Goals.{Else-not-fits-line}
+use Rattle.sink.proofs.buffering.BufferSinkSink.offer.Goals.{Else-not-fits_line}
 
-fitting : (c : Else-not-fits-line) → Fitting (c.args.self.now.size - vec_len c.args.self.now.text) (c.args.line.now ∷ [])
+fitting : (c : Else-not-fits_line) → Fitting (c.args.self.now.size - vec_len c.args.self.now.text) (c.args.line.now ∷ [])
 fitting c =
-    subst (λ n. Fitting (c.args.self.now.size - n) (c.args.line.now ∷ [])) c.len.ensures (c.fits-line.ensures.0 c.if-not-fits-line.false)
+    subst (λ n. Fitting (c.args.self.now.size - n) (c.args.line.now ∷ [])) c.len.ensures (c.fits_line.ensures.0 c.if-not-fits_line.false)
 
-room_for : (c : Else-not-fits-line) → vec_len c.args.self.now.text + (length c.args.line.now + 1) ≤ c.args.self.now.size
+room_for : (c : Else-not-fits_line) → vec_len c.args.self.now.text + (length c.args.line.now + 1) ≤ c.args.self.now.size
 room_for c = omega (arith, (fitting c).1, length-line c.args.line.now)
 
-pub append-line-requires : goal.append-line-requires
-append-line-requires c = omega (arith, room_for (goal.at.append-line-requires c).Else-not-fits-line, c.args.self.now.reserved)
+pub append_line-requires : goal.append_line-requires
+append_line-requires c = omega (arith, room_for (goal.at.append_line-requires c).Else-not-fits_line, c.args.self.now.reserved)
 
 pub overflow-add-self : goal.overflow-add-self
 overflow-add-self c =
-    let room = room_for (goal.at.overflow-add-self c).Else-not-fits-line in
+    let room = room_for (goal.at.overflow-add-self c).Else-not-fits_line in
     let few = lines-few (vec_items c.args.self.now.text) c.args.self.now.whole in
     omega (arith, c.args.self.now.counted, c.args.self.now.text.ok.0)
 
 pub invariant-of-self : goal.invariant-of-self
 invariant-of-self c =
-    let room = room_for (goal.at.invariant-of-self c).Else-not-fits-line in
+    let room = room_for (goal.at.invariant-of-self c).Else-not-fits_line in
     let text = vec_items c.args.self.now.text in
-    let text' = vec_items c.append-line.new.text in
+    let text' = vec_items c.append_line.new.text in
     let w = c.args.self.now.whole in
-    let plain = (fitting (goal.at.invariant-of-self c).Else-not-fits-line).0.0 in
-    let is = c.append-line.ensures.items in
-    (fit_whole text text' c.args.line.now w plain is, (fit_counted text text' c.args.line.now w plain is c.args.self.now.lines c.args.self.now.counted, (omega (arith, room, c.append-line.ensures.len), (omega (arith, c.append-line.ensures.capacity, c.args.self.now.reserved), tt))))
+    let plain = (fitting (goal.at.invariant-of-self c).Else-not-fits_line).0.0 in
+    let is = c.append_line.ensures.items in
+    (fit_whole text text' c.args.line.now w plain is, (fit_counted text text' c.args.line.now w plain is c.args.self.now.lines c.args.self.now.counted, (omega (arith, room, c.append_line.ensures.len), (omega (arith, c.append_line.ensures.capacity, c.args.self.now.reserved), tt))))
 
 pub returns : goal.returns
 returns c =
-    let room = room_for (goal.at.returns c).Else-not-fits-line in
-    fit_taken (vec_items c.args.self.now.text) (vec_items c.append-line.new.text) c.args.line.now (c.args.self.now.size - vec_len c.args.self.now.text) (c.args.self.now.size - vec_len c.append-line.new.text) c.args.self.now.whole (fitting (goal.at.returns c).Else-not-fits-line) c.append-line.ensures.items (omega (arith, room, c.append-line.ensures.len))
+    let room = room_for (goal.at.returns c).Else-not-fits_line in
+    fit_taken (vec_items c.args.self.now.text) (vec_items c.append_line.new.text) c.args.line.now (c.args.self.now.size - vec_len c.args.self.now.text) (c.args.self.now.size - vec_len c.append_line.new.text) c.args.self.now.whole (fitting (goal.at.returns c).Else-not-fits_line) c.append_line.ensures.items (omega (arith, room, c.append_line.ensures.len))

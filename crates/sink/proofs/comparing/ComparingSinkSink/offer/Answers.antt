@@ -5,15 +5,15 @@ use Rattle.sink.proofs.Lines.{lines-few}
 use Rattle.sink.proofs.Telling.{begins-there}
 use Rattle.sink.proofs.Offers.{refused-line, match_within, match_taken, match_whole, match_counted}
 use Rattle.sink.proofs.comparing.ComparingSinkSink.offer.Goals as goal
-use Rattle.sink.proofs.comparing.ComparingSinkSink.offer.Goals.{Else-not-begins-line}
+use Rattle.sink.proofs.comparing.ComparingSinkSink.offer.Goals.{Else-not-begins_line}
 
-pub returns-then-not-begins-line : goal.returns-then-not-begins-line
-returns-then-not-begins-line c =
-    record { answer = refused-line _ _ c.args.line.now (not_from_Decides c.begins-line.result (begins-there c.args.self.now.expected.now c.args.line.now c.args.self.now.at c.begins-line.result c.begins-line.ensures) c.if-not-begins-line.true); same_text = refl }
+pub returns-then-not-begins_line : goal.returns-then-not-begins_line
+returns-then-not-begins_line c =
+    record { answer = refused-line _ _ c.args.line.now (not_from_Decides c.begins_line.result (begins-there c.args.self.now.expected.now c.args.line.now c.args.self.now.at c.begins_line.result c.begins_line.ensures) c.if-not-begins_line.true); same_text = refl }
 
-matching : (c : Else-not-begins-line) → Matching (drop c.args.self.now.at c.args.self.now.expected.now) (c.args.line.now ∷ [])
+matching : (c : Else-not-begins_line) → Matching (drop c.args.self.now.at c.args.self.now.expected.now) (c.args.line.now ∷ [])
 matching c =
-    (begins-there c.args.self.now.expected.now c.args.line.now c.args.self.now.at c.begins-line.result c.begins-line.ensures).0 c.if-not-begins-line.false
+    (begins-there c.args.self.now.expected.now c.args.line.now c.args.self.now.at c.begins_line.result c.begins_line.ensures).0 c.if-not-begins_line.false
 
 pub overflow-add-self-2 : goal.overflow-add-self-2
 overflow-add-self-2 c =
@@ -31,4 +31,4 @@ invariant-of-self c =
 
 pub returns : goal.returns
 returns c =
-    record { answer = match_taken c.args.self.now.expected.now c.args.line.now c.args.self.now.at (matching (goal.at.returns c).Else-not-begins-line) c.args.self.now.whole; same_text = refl }
+    record { answer = match_taken c.args.self.now.expected.now c.args.line.now c.args.self.now.at (matching (goal.at.returns c).Else-not-begins_line) c.args.self.now.whole; same_text = refl }

@@ -11,5 +11,5 @@ returns-in-Name c n =
     let h = c.in-Name.is in
     expr-inside n c.args.depth _ c.args.self.now.rest.now c.next.new.self.rest.now _ (λ z. omega arith) refl (ap head_of (sym h) ∙ c.next.ensures.is) c.next.ensures.rest
 
-pub returns-in-default : goal.returns-in-default
-returns-in-default c = (refl, bare_other c.args.depth c.args.self.now.rest.now c.next.new.self.rest.now c.next.result c.if-depth-eq0.false c.next.ensures.is c.next.ensures.rest c.in-default.not-Name)
+pub returns-in_default : goal.returns-in_default
+returns-in_default c = (refl, bare_other c.args.depth c.args.self.now.rest.now c.next.new.self.rest.now c.next.result c.if-depth-eq0.false c.next.ensures.is c.next.ensures.rest c.in_default.not-Name)

@@ -6,14 +6,14 @@ use Rattle.walk.specs.Puts.{class_put, classes_put}
 use Rattle.walk.proofs.Going.{tells_empty, tells-inside, sofar_more}
 use Rattle.walk.proofs.walker.Walker.+walk_class_walk_class_record_walk_classes.Goals as goal
 
-pub walk-class-returns-then-depth-eq0 : goal.walk-class-returns-then-depth-eq0
-walk-class-returns-then-depth-eq0 t c =
+pub walk_class-returns-then-depth-eq0 : goal.walk_class-returns-then-depth-eq0
+walk_class-returns-then-depth-eq0 t c =
     tells_empty c.args.end c.args.depth c.place-place.result c.args.self.now _ c.if-depth-eq0.true c.place-place.ensures refl
 
-pub walk-class-returns : goal.walk-class-returns
-walk-class-returns t c =
-    IfOk-weaker c.walk-class-record.result _ _ (λ v g. tells-inside c.args.end c.args.depth c.args.self.now _ v (λ z. omega arith) g) c.walk-class-record.ensures
+pub walk_class-returns : goal.walk_class-returns
+walk_class-returns t c =
+    IfOk-weaker c.walk_class_record.result _ _ (λ v g. tells-inside c.args.end c.args.depth c.args.self.now _ v (λ z. omega arith) g) c.walk_class_record.ensures
 
-pub walk-classes-loop-preserved : goal.walk-classes-loop-preserved
-walk-classes-loop-preserved t c =
-    sofar_more no_class add_class (one_class c.args.end c.args.depth) class_put classes_put (λ a l s. refl) c.count-n.result c.loop.counter _ _ _ _ _ _ (omega arith) c.loop.invariant c.in-ok-walk-class.ensures.rest c.in-ok-walk-class.ensures.uses
+pub walk_classes-loop-preserved : goal.walk_classes-loop-preserved
+walk_classes-loop-preserved t c =
+    sofar_more no_class add_class (one_class c.args.end c.args.depth) class_put classes_put (λ a l s. refl) c.count-n.result c.loop.counter _ _ _ _ _ _ (omega arith) c.loop.invariant c.in_ok-walk_class.ensures.rest c.in_ok-walk_class.ensures.uses
