@@ -73,15 +73,15 @@ abbrev mutual
   classes_at (add_class c cs) p = class_at c p × behind p (class_bytes c) (classes_at cs)
 
 -- a module's own declarations, the first of their fields at p
-abbrev pub field_own : Classes → List Function → List Attribute → ℕ → Type 0
-field_own classes functions attributes p =
+abbrev pub own_at : Classes → List Function → List Attribute → ℕ → Type 0
+own_at classes functions attributes p =
     classes_at classes (first_item p) × behind p (field (classes_count classes) (classes_bytes classes)) λ q. list_field_at function_at function_bytes functions q × behind q (list_field function_bytes functions) (list_field_at attribute_at attribute_bytes attributes)
 
 abbrev mutual
   pub module_at : Module → ℕ → Type 0
   module_at (pymodule place s modules own classes functions attributes) p =
       let q : ℕ = first_field p s in
-      (place ≡ p) × (modules_at modules (first_item q) × behind q (field (modules_count modules) (modules_bytes modules)) λ r. (own ≡ r) × field_own classes functions attributes r)
+      (place ≡ p) × (modules_at modules (first_item q) × behind q (field (modules_count modules) (modules_bytes modules)) λ r. (own ≡ r) × own_at classes functions attributes r)
 
   pub modules_at : Modules → ℕ → Type 0
   modules_at no_module p = Unit {0}

@@ -44,5 +44,5 @@ returns c =
       renames = folds_renames _ _ c.loop-r.r-index c.loop-r.binder c.loop-r.renaming past c.loop-r.invariant;
     }
 
-pub invariant-of-result : goal.invariant-of-result
-invariant-of-result c = (valid-from-btree-map by_texts c.loop-r.renaming c.loop-r.invariant.ordered, tt)
+pub invariant_of-result : goal.invariant_of-result
+invariant_of-result c = (valid-from-btree-map by_texts c.loop-r.renaming c.loop-r.invariant.ordered, tt)

@@ -7,8 +7,8 @@ use Rattle.naming.proofs.next.append_next.Goals as goal
 pub returns-in_default : goal.returns-in_default
 returns-in_default c = puts_none c.args.name.now (vec_items c.args.out.now) c.split_number-at.result.1 c.split_number-at.ensures.number (λ l. c.in_default.ensures (omega arith))
 
-pub slice-bounds-extend_from_slice-end : goal.slice-bounds-extend_from_slice-end
-slice-bounds-extend_from_slice-end c =
+pub slice_bounds-extend_from_slice-end : goal.slice_bounds-extend_from_slice-end
+slice_bounds-extend_from_slice-end c =
     let l = front_le c.args.name.now in
     omega (arith, length-take-le c.split_number-at.result.0 c.args.name.now (omega (arith, c.split_number-at.ensures.front)))
 

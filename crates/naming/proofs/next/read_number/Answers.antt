@@ -9,8 +9,8 @@ returns-in_default c =
     read-over c.args.digits.now c.loop-d.d-index c.loop-d.sum c.loop-d-test.true c.requires c.loop-d.invariant.1
     (let over = c.in_default.ensures in omega arith)
 
-pub overflow-sub-d : goal.overflow-sub-d
-overflow-sub-d c = (digit_at c.args.digits.now c.loop-d.d-index c.requires c.loop-d-test.true).0
+pub overflow_sub-d : goal.overflow_sub-d
+overflow_sub-d c = (digit_at c.args.digits.now c.loop-d.d-index c.requires c.loop-d-test.true).0
 
 pub returns-in_default-checked_add : goal.returns-in_default-checked_add
 returns-in_default-checked_add c =

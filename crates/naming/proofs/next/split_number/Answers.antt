@@ -5,11 +5,11 @@ use Rattle.naming.specs.Next.{counted, number}
 use Rattle.naming.proofs.Fronts.{front_le, front-digits}
 use Rattle.naming.proofs.next.split_number.Goals as goal
 
-pub slice-bounds-read_number-count : goal.slice-bounds-read_number-count
-slice-bounds-read_number-count c = let l = front_le c.args.name.now in omega (arith, c.front_of-at.ensures)
+pub slice_bounds-read_number-count : goal.slice_bounds-read_number-count
+slice_bounds-read_number-count c = let l = front_le c.args.name.now in omega (arith, c.front_of-at.ensures)
 
-pub slice-bounds-read_number-start : goal.slice-bounds-read_number-start
-slice-bounds-read_number-start c = let l = front_le c.args.name.now in omega (arith, c.front_of-at.ensures)
+pub slice_bounds-read_number-start : goal.slice_bounds-read_number-start
+slice_bounds-read_number-start c = let l = front_le c.args.name.now in omega (arith, c.front_of-at.ensures)
 
 pub read_number-requires : goal.read_number-requires
 read_number-requires c =

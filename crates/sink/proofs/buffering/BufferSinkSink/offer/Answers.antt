@@ -15,19 +15,19 @@ room_for c = omega (arith, (fitting c).1, length-line c.args.line.now)
 pub append_line-requires : goal.append_line-requires
 append_line-requires c = omega (arith, room_for (goal.at.append_line-requires c).Else-not-fits_line, c.args.self.now.reserved)
 
-pub overflow-add-self : goal.overflow-add-self
-overflow-add-self c =
-    let room = room_for (goal.at.overflow-add-self c).Else-not-fits_line in
+pub overflow_add-self : goal.overflow_add-self
+overflow_add-self c =
+    let room = room_for (goal.at.overflow_add-self c).Else-not-fits_line in
     let few = lines-few (vec_items c.args.self.now.text) c.args.self.now.whole in
     omega (arith, c.args.self.now.counted, c.args.self.now.text.ok.0)
 
-pub invariant-of-self : goal.invariant-of-self
-invariant-of-self c =
-    let room = room_for (goal.at.invariant-of-self c).Else-not-fits_line in
+pub invariant_of-self : goal.invariant_of-self
+invariant_of-self c =
+    let room = room_for (goal.at.invariant_of-self c).Else-not-fits_line in
     let text = vec_items c.args.self.now.text in
     let text' = vec_items c.append_line.new.text in
     let w = c.args.self.now.whole in
-    let plain = (fitting (goal.at.invariant-of-self c).Else-not-fits_line).0.0 in
+    let plain = (fitting (goal.at.invariant_of-self c).Else-not-fits_line).0.0 in
     let is = c.append_line.ensures.items in
     (fit_whole text text' c.args.line.now w plain is, (fit_counted text text' c.args.line.now w plain is c.args.self.now.lines c.args.self.now.counted, (omega (arith, room, c.append_line.ensures.len), (omega (arith, c.append_line.ensures.capacity, c.args.self.now.reserved), tt))))
 

@@ -15,13 +15,13 @@ matching : (c : Else-not-begins_line) → Matching (drop c.args.self.now.at c.ar
 matching c =
     (begins-there c.args.self.now.expected.now c.args.line.now c.args.self.now.at c.begins_line.result c.begins_line.ensures).0 c.if-not-begins_line.false
 
-pub overflow-add-self-2 : goal.overflow-add-self-2
-overflow-add-self-2 c =
+pub overflow_add-self-2 : goal.overflow_add-self-2
+overflow_add-self-2 c =
     let few : c.args.self.now.lines + 1 ≤ length c.args.self.now.expected.now = omega (arith, c.args.self.now.counted, c.args.self.now.within, lines-few (take c.args.self.now.at c.args.self.now.expected.now) c.args.self.now.whole, length-take c.args.self.now.at c.args.self.now.expected.now, match_within c.args.self.now.expected.now c.args.line.now c.args.self.now.at (matching c)) in
     omega arith
 
-pub invariant-of-self : goal.invariant-of-self
-invariant-of-self c =
+pub invariant_of-self : goal.invariant_of-self
+invariant_of-self c =
     let m = matching c in
     let text = c.args.self.now.expected.now in
     let line = c.args.line.now in
