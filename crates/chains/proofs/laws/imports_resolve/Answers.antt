@@ -2,4 +2,4 @@ use Rattle.chains.proofs.Leading.{imports-resolve}
 use Rattle.chains.proofs.laws.imports_resolve.Goals as goal
 
 pub returns : goal.returns
-returns c = imports_resolve
+returns c = imports-resolve
