@@ -1,15 +1,15 @@
 -- One entry more.
 use Rattle.std.proofs.Common.{◌≡◌, ℕ, ◌+◌, ◌≤◌, Bool, true, false, cond, not, ◌||◌, ltb, ◌⊎◌, List, [], ◌∷◌, ◌++◌, Some, None, Ok, Option, sym, refl, ap, ◌∙◌, inl, inr, append_assoc, append-nil, add_comm, arith, ltb-true, lt-ltb}
 use borrow.Author.Tests.{clash}
-use Rattle.std.specs.BTreeSet.{btree_set_len, Inserts}
+use Rattle.std.specs.BTreeSet.{IsOrdered, contains, Updates, btree_set_len}
 use Rattle.model.specs.Limits.{Keyed, occurs, distinct, distinct_allowed}
 use Rattle.model.specs.Rules.{least, sooner}
 use Rattle.limits.specs.declared.walk.Key.{Key}
 use Rattle.limits.specs.declared.walk.Rule.{Rule}
 use Rattle.limits.specs.declared.walk.Rule.TheVariants.{Repeat, Surplus}
 use Rattle.limits.specs.declared.walk.Walk.{Walk}
-use Rattle.limits.specs.Walked.{Whole, Orders, by_parts, same, key_of, entry_of, seen_in, shown_after, shown_by, test_of, full_by, Kept, Full, Met}
-use Rattle.limits.proofs.Ties.{key_ties}
+use Rattle.limits.specs.Walked.{Whole, by_parts, same, key_of, entry_of, seen_in, shown_after, shown_by, test_of, full_by, Kept, Full, Met}
+use Rattle.limits.proofs.Ties.{key_tied}
 
 -- ---- the places
 
@@ -39,6 +39,10 @@ least_more ps p true = least_push ps p
 least_more ps p false = ap least (append-nil ps)
 
 -- ---- the keys
+
+not_twice : (b : Bool) → not (not b) ≡ b
+not_twice true = refl
+not_twice false = refl
 
 cond_or : (a b : Bool) → cond a true b ≡ (a || b)
 cond_or true b = refl
@@ -85,21 +89,23 @@ module _ (rule : Rule) (place : ℕ) (k : Key) (w : Walk) (xs : List (Keyed Whol
       ∙ sym (ap least (shown_push (test_of same rule) [] xs (entry_of place k)) ∙ least_more (shown_after (test_of same rule) [] xs) place (test_of same rule (key_of k) (seen_in [] xs)))
 
   kept_more : (v : Walk) (new shown : Bool)
-      → Inserts Orders w.keys v.keys k (Ok new)
+      → new ≡ not (contains by_parts w.keys k)
+      → Updates by_parts w.keys v.keys k true
+      → btree_set_len v.keys ≡ btree_set_len w.keys + cond new 1 0
+      → IsOrdered by_parts v.keys
       → shown ≡ shown_by rule new (btree_set_len v.keys)
       → v.least ≡ cond shown (Some (sooner place w.least)) w.least
       → Kept xs w → Met rule (xs ++ entry_of place k ∷ []) v
-  kept_more v new shown put shows noted kept =
+  kept_more v new shown added put counted ordered shows noted kept =
       let seen = seen_in [] xs in
       let pushed = seen_push [] xs (entry_of place k) in
-      let after = put.2 by_parts m.lawful in
-      let old : not new ≡ occurs same (key_of k) seen = put.1 by_parts m.lawful ∙ kept.holds k in
+      let old : not new ≡ occurs same (key_of k) seen = ap not added ∙ not_twice (contains by_parts w.keys k) ∙ kept.holds k in
       let count : btree_set_len v.keys ≡ distinct same (key_of k ∷ seen) =
-      put.0 ∙ ap (λ n. n + cond new 1 0) kept.count ∙ one_more new (occurs same (key_of k) seen) (distinct same seen) old in
+      counted ∙ ap (λ n. n + cond new 1 0) kept.count ∙ one_more new (occurs same (key_of k) seen) (distinct same seen) old in
       record {
-        lawful = after.0;
+        lawful = ordered;
         known = inl record {
-          holds = λ q. after.1 q ∙ (λ i. cond (key_ties q k i) true (kept.holds q i)) ∙ cond_or (same (key_of q) (key_of k)) (occurs same (key_of q) seen) ∙ ap (occurs same (key_of q)) (sym pushed);
+          holds = λ q. put.0 q ∙ (λ i. cond (key_tied k q i) true (kept.holds q i)) ∙ cond_or (same (key_of q) (key_of k)) (occurs same (key_of q) seen) ∙ ap (occurs same (key_of q)) (sym pushed);
           count = count ∙ ap (distinct same) (sym pushed);
         };
         least-is = least_with v.least shown (shows ∙ tested rule (key_of k) seen new (btree_set_len v.keys) old count) noted;
@@ -108,13 +114,16 @@ module _ (rule : Rule) (place : ℕ) (k : Key) (w : Walk) (xs : List (Keyed Whol
 -- a key that the set takes in
 pub meets : (rule : Rule) (place : ℕ) (k : Key) (w v : Walk) (new shown : Bool)
     → false ≡ full_by rule (btree_set_len w.keys)
-    → Inserts Orders w.keys v.keys k (Ok new)
+    → new ≡ not (contains by_parts w.keys k)
+    → Updates by_parts w.keys v.keys k true
+    → btree_set_len v.keys ≡ btree_set_len w.keys + cond new 1 0
+    → IsOrdered by_parts v.keys
     → shown ≡ shown_by rule new (btree_set_len v.keys)
     → v.least ≡ cond shown (Some (sooner place w.least)) w.least
     → (xs : List (Keyed Whole)) → Met rule xs w → Met rule (xs ++ entry_of place k ∷ []) v
-meets rule place k w v new shown room put shows noted xs m =
+meets rule place k w v new shown room added put counted ordered shows noted xs m =
     elim m.known [
-      | inl kept ↦ kept_more rule place k w xs m v new shown put shows noted kept
+      | inl kept ↦ kept_more rule place k w xs m v new shown added put counted ordered shows noted kept
       | inr full ↦ absurd (clash (room ∙ full.told))
     ]
 

@@ -1,12 +1,10 @@
 -- What a walk over entries has met, by the keys' texts and never by where those lie.
 use Rattle.std.specs.Prelude.{◌≡◌, ℕ, ◌<◌, Bool, true, false, cond, not, ◌&&◌, ◌⊎◌, List, [], ◌∷◌, ◌++◌, Option, MatchOption, nat_lt}
-use Rattle.std.specs.declared.cmp.Ordering.TheVariants.{Less, Equal, Greater}
 use Rattle.std.specs.declared.cmp.Ordering.{Ordering}
-use Rattle.std.specs.Borrow.{Bor}
-use Rattle.std.specs.Ordering.{MatchOrdering}
-use Rattle.std.specs.Cmp.{IsTotalOrder, nat_cmp_total, optional, on_total}
-use Rattle.std.specs.Cmp.Lexicographic as lexical
-use Rattle.std.specs.Cmp.Derive as derived
+use Rattle.std.specs.Ordering.{ordering_then, nat_cmp}
+use Rattle.std.specs.Option.{option_cmp}
+use Rattle.std.specs.Cmp.{IsTotalOrder, nat_cmp_total, on_total, then_total}
+use Rattle.std.specs.Cmp.Lexicographic.{slice_cmp, options_total, on_texts}
 use Rattle.std.specs.BTreeSet.{IsOrdered, contains, btree_set_len}
 use Rattle.model.specs.Limits.{Keyed, occurs, distinct, same_holder, same_reference, distinct_allowed}
 use Rattle.model.specs.Rules.{least}
@@ -14,7 +12,6 @@ use Rattle.limits.specs.declared.walk.Key.{Key}
 use Rattle.limits.specs.declared.walk.Rule.{Rule}
 use Rattle.limits.specs.declared.walk.Rule.TheVariants.{Repeat, Surplus}
 use Rattle.limits.specs.declared.walk.Walk.{Walk}
-use Rattle.std.specs.Cmp.Lexicographic.{lists_total}
 
 -- a key as the values that it stands for
 abbrev pub Whole : Type 0
@@ -30,21 +27,13 @@ abbrev pub entry_of : ℕ → Key → Keyed Whole
 entry_of p k = record { place = p; key = key_of k }
 
 -- the order of the keys: by the group, then by the bytes of each text
-abbrev Numbered : ℕ → ℕ → Ordering → Type 0
-Numbered x y r = MatchOrdering r (x < y) (x ≡ y) (y < x)
+abbrev pub by_parts : Key → Key → Ordering
+by_parts x y =
+    ordering_then (option_cmp nat_cmp x.group y.group) (ordering_then (slice_cmp nat_cmp x.from.now y.from.now) (slice_cmp nat_cmp x.name.now y.name.now))
 
-abbrev Grouped : Option ℕ → Option ℕ → Ordering → Type 0
-Grouped p q r = MatchOption p (MatchOption q (r ≡ Equal) (λ _. r ≡ Less)) (λ x. MatchOption q (r ≡ Greater) (λ y. Numbered x y r))
-
-abbrev Spelled : Bor (List ℕ) → Bor (List ℕ) → Ordering → Type 0
-Spelled x y = lexical.Lex Numbered x.now y.now
-
-abbrev pub Orders : Key → Key → Ordering → Type 0
-Orders x y = derived.Lex (Grouped x.group y.group) (derived.Lex (Spelled x.from y.from) (Spelled x.name y.name))
-
-abbrev pub by_parts : IsTotalOrder Orders
-by_parts =
-    derived.on (λ (k : Key). (k.group, (k.from, k.name))) (derived.fields (optional nat_cmp_total) (derived.fields (on_total (λ x. x.now) (lists_total nat_cmp_total)) (on_total (λ x. x.now) (lists_total nat_cmp_total))))
+pub parts_total : IsTotalOrder by_parts
+parts_total =
+    then_total (on_total (λ (k : Key). k.group) (options_total nat_cmp_total)) (then_total (on_texts (λ (k : Key). k.from.now)) (on_texts (λ (k : Key). k.name.now)))
 
 -- the keys of entries, newest first, before those that `seen` has
 abbrev pub seen_in : {K : Type 0} → List K → List (Keyed K) → List K

@@ -10,9 +10,9 @@ returns-then-is_full c =
 pub returns-then-shows : goal.returns-then-shows
 returns-then-shows c =
     meets c.args.rule c.args.place c.args.key c.args.self.now record { keys = c.insert.new.self; least = Some c.sooner-then-shows.result } c.in_ok-new.new true
-    c.if-is_full.ensures c.in_ok-new.ensures.inserted (c.if-shows.ensures ∙ ap (shown_by c.args.rule c.in_ok-new.new) c.len.ensures) (ap Some c.sooner-then-shows.ensures)
+    c.if-is_full.ensures c.in_ok-new.ensures.added c.in_ok-new.ensures.updates c.in_ok-new.ensures.len c.in_ok-new.ensures.ordered (c.if-shows.ensures ∙ ap (shown_by c.args.rule c.in_ok-new.new) c.len.ensures.len) (ap Some c.sooner-then-shows.ensures)
 
 pub returns-else-shows : goal.returns-else-shows
 returns-else-shows c =
     meets c.args.rule c.args.place c.args.key c.args.self.now record { keys = c.insert.new.self; least = c.args.self.now.least } c.in_ok-new.new false
-    c.if-is_full.ensures c.in_ok-new.ensures.inserted (c.if-shows.ensures ∙ ap (shown_by c.args.rule c.in_ok-new.new) c.len.ensures) refl
+    c.if-is_full.ensures c.in_ok-new.ensures.added c.in_ok-new.ensures.updates c.in_ok-new.ensures.len c.in_ok-new.ensures.ordered (c.if-shows.ensures ∙ ap (shown_by c.args.rule c.in_ok-new.new) c.len.ensures.len) refl
