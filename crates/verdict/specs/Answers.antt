@@ -25,6 +25,6 @@ abbrev pub Says : Verdict → Refusal → Type 0
 Says v f = Tells v (told f)
 
 -- what stops the reader, as a refusal
-abbrev pub fromFault : Fault → Refusal
-fromFault (Broken e) = Layout e.place
-fromFault NoMemory = Memory
+abbrev pub from_fault : Fault → Refusal
+from_fault (Broken e) = Layout e.place
+from_fault NoMemory = Memory

@@ -1,7 +1,7 @@
 // Why a model is refused, and at which offset.
 ghost use Rattle.std.specs.Prelude.{◌≡◌};
 ghost use Rattle.verdict.specs.declared.refusal.Refusal.TheVariants.{Memory};
-ghost use Rattle.verdict.specs.Answers.{told as told_of, fromFault};
+ghost use Rattle.verdict.specs.Answers.{told as told_of, from_fault};
 
 use model::Fault;
 use std::alloc::AllocError;
@@ -52,7 +52,7 @@ impl From<AllocError> for Refusal {
 }
 
 impl From<Fault> for Refusal {
-    ghost from_gives = { λ e r. r ≡ fromFault e };
+    ghost from_gives = { λ e r. r ≡ from_fault e };
 
     fn from(e: Fault) -> Refusal {
         match e {

@@ -28,7 +28,7 @@ fn soonest(a: Option<usize>, b: Option<usize>) -> Option<usize>
 fn is_builtins(name: &[u8]) -> bool
     ensures { result ≡ same_text_of name.now builtins }
 {
-    name == b"builtins"
+    name == b"builtins".as_slice()
 }
 
 // The root where it is called builtins, which is the module of Python's own names.
