@@ -13,10 +13,10 @@ pub enum Call<'a> {
 pub(crate) fn call_of(line: &[u8]) -> Call<'_>
     ensures { Means line.now result }
 {
-    if line == b"load" {
+    if line == b"load".as_slice() {
         return Call::Load(&[]);
     }
-    if line == b"count" {
+    if line == b"count".as_slice() {
         return Call::Count;
     }
     let Some(digits) = line.strip_prefix(b"load ") else {

@@ -2,7 +2,12 @@
 #![tactic(auto)]
 
 use commands::Failed;
+use std::process::ExitCode;
 
-fn main(rt: HostRuntime) -> Result<(), Failed> {
-    commands::run(&rt)
+// What there is to say of a failure is printed by `run`, so `main` answers its status alone.
+fn main(rt: HostRuntime) -> ExitCode {
+    match commands::run(&rt) {
+        Ok(()) => ExitCode::SUCCESS,
+        Err(Failed) => ExitCode::FAILURE,
+    }
 }
