@@ -1,6 +1,6 @@
 // A cursor over packed bytes that are known to be laid out, so that every step has an answer: past the end there are
 // zeros. It keeps only what is left; the model's length, by which places are told, is the caller's to pass.
-ghost use Rattle.std.specs.Prelude.{◌≡◌, drop};
+ghost use Rattle.std.specs.Prelude.{◌≡◌, ◌<◌, drop};
 ghost use Rattle.model.specs.Read.{place as place_of, bit as bit_of};
 ghost use Rattle.model.specs.Steps.{head_of};
 ghost use Rattle.walk.specs.Total.{byte as byte_at, number as number_at, text as text_at, count as count_at, head as head_at};
@@ -8,13 +8,11 @@ ghost use Rattle.walk.specs.Puts.{skip as skip_at, skip_parts as skip_parts_at, 
 
 use model::Expression;
 
-// Whether the bit of this value stands in a map. No bit has the value 0.
+// Whether the bit of this value stands in a map.
 pub fn stands(map: u16, bit: u16) -> bool
+    requires { 0 < bit }
     ensures { result ≡ bit_of map bit }
 {
-    if bit == 0 {
-        return false;
-    }
     map / bit % 2 == 1
 }
 
