@@ -1,10 +1,9 @@
 -- Whether the run of one line fits, or matches.
-use Rattle.std.proofs.Common.{◌≡◌, ℕ, ◌+◌, ◌-◌, ◌<◌, ◌≤◌, Bool, true, false, not, eqb, List, [], ◌∷◌, ◌++◌, length, get_or, take, drop, Decides, Contains, sym, refl, ap, ◌∙◌, subst, arith, length-take, take_all, take-take, take_at}
-use Rattle.std.specs.List.{AllByRecursion}
+use Rattle.std.proofs.Common.{◌≡◌, ℕ, ◌-◌, ◌<◌, ◌≤◌, Bool, true, false, not, eqb, List, [], ◌∷◌, ◌++◌, length, get_or, take, drop, Decides, Contains, sym, refl, ap, ◌∙◌, subst, arith, length-take, take_all, take-take, take_at}
 use mathlib.Core.Bool.{false≢true}
-use Rattle.std.specs.Cmp.Lexicographic.{Matches}
+use Rattle.std.specs.Cmp.Lexicographic.{pointwise}
 use Rattle.std.specs.List.{IsAnyAnswer}
-use Rattle.std.proofs.lemmas.List.Elements.{All-from_get_or, All-contains, contains_decides, Contains-get_or}
+use Rattle.std.proofs.lemmas.List.Elements.{All-from_recursion, recursion_from_All, All-from_get_or, All-contains, contains_decides, Decides-contains, Contains-get_or}
 use Rattle.std.proofs.lemmas.Slice.Eq.{slice_eq-Decides}
 use Rattle.std.proofs.lemmas.List.{get_or_at, get_or-take, length-take-le, take_more, take_rest}
 use Rattle.std.proofs.lemmas.Bool.{eq-eqb, eqb-true}
@@ -14,11 +13,11 @@ use Rattle.sink.specs.Texts.{written, lines_in, Whole, Fitting, Matching}
 use Rattle.sink.proofs.Lines.{length-line}
 
 none_has : (l : List ℕ) → (Contains l 10 → ⊥) → Plain l
-none_has l n = All-from_get_or (λ b. b ≡ 10 → ⊥) l 0 (λ i h e. n (subst (λ b. Contains l b) e (Contains-get_or l i 0 h)))
+none_has l n = recursion_from_All (λ b. b ≡ 10 → ⊥) l (All-from_get_or (λ b. b ≡ 10 → ⊥) l 0 (λ i h e. n (subst (λ b. Contains l b) e (Contains-get_or l i 0 h))))
 
-pub plain-Decides : (l : List ℕ) (r : Bool) → IsAnyAnswer (λ y t. Decides t (y ≡ 10)) l r → Decides (not r) (Plain l)
+pub plain-Decides : (l : List ℕ) (r : Bool) → IsAnyAnswer (λ y t. eqb y 10 ≡ t) l r → Decides (not r) (Plain l)
 plain-Decides l r s =
-    Decides-like (not r) (none_has l) (λ p h. All-contains (λ b. b ≡ 10 → ⊥) l 10 p h refl) (Decides-not r (contains_decides eqb Decides-eqb l 10 r s))
+    Decides-like (not r) (none_has l) (λ p h. All-contains (λ b. b ≡ 10 → ⊥) l 10 (All-from_recursion (λ b. b ≡ 10 → ⊥) l p) h refl) (Decides-not r (Decides-contains l 10 r (contains_decides eqb Decides-eqb l 10 r s)))
 
 -- what a test tells that is false since the fact does not hold
 never : {P : Type 0} → (P → ⊥) → Decides false P
@@ -38,11 +37,11 @@ pub begins_other : (text line : List ℕ) → (get_or text (length line) 0 ≡ 1
 begins_other text line n =
     never (λ p. n (sym (get_or-take (length (line ++ (10 ∷ []))) text (length line) 0 (omega (arith, length-line line))) ∙ ap (λ t. get_or t (length line) 0) p.1 ∙ get_or_at line 10 [] 0 (length line) refl))
 
-pub begins-apart : (text line : List ℕ) (r : Bool) → Matches (λ (a b : ℕ) (t : Bool). Decides t (a ≡ b)) line (take (length line) text) r → r ≡ false → Decides false (Matching text (line ∷ []))
+pub begins-apart : (text line : List ℕ) (r : Bool) → r ≡ pointwise eqb line (take (length line) text) → r ≡ false → Decides false (Matching text (line ∷ []))
 begins-apart text line r m e =
     never (λ p. false≢true (sym e ∙ (slice_eq-Decides Decides-eqb line (take (length line) text) r m).1 (sym (take_at line (10 ∷ []) (length line) refl) ∙ ap (take (length line)) (sym p.1) ∙ take-take (length line) (length (line ++ (10 ∷ []))) text (omega (arith, length-line line)))))
 
-pub begins_if_plain : (text line : List ℕ) (r s : Bool) → length line < length text → get_or text (length line) 0 ≡ 10 → Matches (λ (a b : ℕ) (t : Bool). Decides t (a ≡ b)) line (take (length line) text) r → r ≡ true → Decides s (Plain line) → Decides s (Matching text (line ∷ []))
+pub begins_if_plain : (text line : List ℕ) (r s : Bool) → length line < length text → get_or text (length line) 0 ≡ 10 → r ≡ pointwise eqb line (take (length line) text) → r ≡ true → Decides s (Plain line) → Decides s (Matching text (line ∷ []))
 begins_if_plain text line r s h n m e d =
     Decides-like s (λ p. ((p, tt), begins)) (λ p. p.0.0) d
   where

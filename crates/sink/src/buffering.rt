@@ -59,7 +59,7 @@ impl Sink for BufferSink {
 
     ghost takes = { buffer_takes };
 
-    ghost lawful = { fitting-laws buffer_room };
+    ghost lawful = { fitting_laws buffer_room };
 
     fn offer(&mut self, line: &[u8]) -> Result<(), Refusal> {
         let room = self.size - self.text.len();

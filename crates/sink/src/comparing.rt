@@ -48,7 +48,7 @@ impl<'a> Sink for ComparingSink<'a> {
 
     ghost takes = { compared_takes };
 
-    ghost lawful = { matching-laws expected_rest };
+    ghost lawful = { matching_laws expected_rest };
 
     // The expected text stays, which the two values alone do not tell where a rest without a newline is left.
     fn offer(&mut self, line: &[u8]) -> Result<(), Refusal>

@@ -7,7 +7,7 @@ use crate::meaning::Sink;
 
 /// Offers the lines in turn, up to the first that is refused: all are taken as one run, or the answer is how many were.
 pub fn offer_all<S: Sink>(sink: &mut S, lines: &[&[u8]]) -> Result<(), usize>
-    ensures { OfferedAll taken takes sink.old (map (λ x. x.now) lines.now) result sink.new }
+    ensures { OfferedAll S.taken S.takes sink.old (map (λ x. x.now) lines.now) result sink.new }
 {
     for (i, line) in lines.iter().enumerate() {
         match sink.offer(line) {

@@ -29,7 +29,12 @@ invariant_of-self c =
     let w = c.args.self.now.whole in
     let plain = (fitting (goal.at.invariant_of-self c).Else-not-fits_line).0.0 in
     let is = c.append_line.ensures.items in
-    (fit_whole text text' c.args.line.now w plain is, (fit_counted text text' c.args.line.now w plain is c.args.self.now.lines c.args.self.now.counted, (omega (arith, room, c.append_line.ensures.len), (omega (arith, c.append_line.ensures.capacity, c.args.self.now.reserved), tt))))
+    record {
+      whole = fit_whole text text' c.args.line.now w plain is;
+      counted = fit_counted text text' c.args.line.now w plain is c.args.self.now.lines c.args.self.now.counted;
+      within = omega (arith, room, c.append_line.ensures.len);
+      reserved = omega (arith, c.append_line.ensures.capacity, c.args.self.now.reserved);
+    }
 
 pub returns : goal.returns
 returns c =

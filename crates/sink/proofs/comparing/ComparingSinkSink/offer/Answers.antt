@@ -27,7 +27,11 @@ invariant_of-self c =
     let line = c.args.line.now in
     let at = c.args.self.now.at in
     let w = c.args.self.now.whole in
-    (match_within text line at m, (match_whole text line at m w, (match_counted text line at m w c.args.self.now.lines c.args.self.now.counted, tt)))
+    record {
+      within = match_within text line at m;
+      whole = match_whole text line at m w;
+      counted = match_counted text line at m w c.args.self.now.lines c.args.self.now.counted;
+    }
 
 pub returns : goal.returns
 returns c =
