@@ -1,14 +1,14 @@
 -- A line that is no call.
-use Rattle.std.proofs.Common.{◌≡◌, ℕ, ◌<◌, Bool, true, false, List, [], ◌++◌, length, get_or, codes, Decides, sym, ap, ◌∙◌, subst, inl, inr, arith, rules}
+use Rattle.std.proofs.Common.{◌≡◌, ℕ, ◌<◌, Bool, false, eqb, List, ◌++◌, length, get_or, codes, sym, ap, ◌∙◌, subst, inl, inr, arith}
 use Rattle.std.proofs.lemmas.Slice.Eq.{slice_eq-Decides}
 use Rattle.std.proofs.lemmas.List.Prefix.{front_rest}
-use Rattle.std.specs.Cmp.Lexicographic.{Matches}
+use Rattle.std.specs.Cmp.Lexicographic.{pointwise}
 use Rattle.commands.specs.Calls.{Loads, LoadsWord}
-use Rattle.std.proofs.lemmas.Bool.Decides.{Decides-eqb}
+use Rattle.std.proofs.lemmas.Bool.Decides.{Decides-eqb, not_from_Decides}
 
 -- what `==` answered of two texts, where it is false
-pub differ : (xs ys : List ℕ) (r : Bool) → Matches (λ (a b : ℕ) (t : Bool). Decides t (a ≡ b)) xs ys r → r ≡ false → xs ≡ ys → ⊥
-differ xs ys r h apart same = search (rules, slice_eq-Decides Decides-eqb xs ys r h)
+pub differ : (xs ys : List ℕ) (r : Bool) → r ≡ pointwise eqb xs ys → r ≡ false → xs ≡ ys → ⊥
+differ xs ys r h = not_from_Decides r (slice_eq-Decides Decides-eqb xs ys r h)
 
 -- what stands behind `load ` is one text
 pub one_word : (line digits other : List ℕ) → line ≡ codes "load " ++ digits → line ≡ codes "load " ++ other → digits ≡ other
