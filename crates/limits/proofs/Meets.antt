@@ -1,5 +1,5 @@
 -- One entry more.
-use Rattle.std.proofs.Common.{◌≡◌, ℕ, ◌+◌, ◌≤◌, Bool, true, false, cond, not, ◌||◌, ltb, ◌⊎◌, List, [], ◌∷◌, ◌++◌, Some, None, Ok, Option, sym, refl, ap, ◌∙◌, inl, inr, append_assoc, append-nil, add_comm, arith, ltb-true, lt-ltb}
+use Rattle.std.proofs.Common.{◌≡◌, ℕ, ◌+◌, ◌≤◌, Bool, true, false, cond, not, ◌||◌, ltb, ◌⊎◌, List, [], ◌∷◌, ◌++◌, Some, None, Option, sym, refl, ap, ◌∙◌, inl, inr, append_assoc, append-nil, add_comm, arith, ltb-true, lt-ltb}
 use borrow.Author.Tests.{clash}
 use Rattle.std.specs.BTreeSet.{IsOrdered, contains, Updates, btree_set_len}
 use Rattle.model.specs.Limits.{Keyed, occurs, distinct, distinct_allowed}

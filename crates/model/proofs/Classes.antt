@@ -4,7 +4,7 @@ use Rattle.model.specs.Tree.{Text, Exprs, Attribute, Function, Class, Classes, c
 use Rattle.model.specs.Encode as Encode
 use Rattle.model.specs.Encode.{class_bytes, classes_bytes, classes_count}
 use Rattle.model.specs.Places.{class_at, classes_at}
-use Rattle.model.specs.Read.{Out, read, fault, place, fields, listed, exprs, attribute, attributes, function, functions, class_over, one_class, classes}
+use Rattle.model.specs.Read.{Out, fault, place, fields, listed, exprs, attribute, attributes, function, functions, class_over, one_class, classes}
 use Rattle.model.proofs.Exact.{Format, Exact, exact_same}
 use Rattle.model.proofs.Rows.{Lists, ExactIf, field_format, listed_exact}
 use Rattle.model.proofs.Parts.{last, next, last_exact, next_exact, framed_exact}

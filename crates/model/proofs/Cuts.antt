@@ -3,8 +3,7 @@ use Rattle.std.proofs.Common.{◌≡◌, ℕ, ◌-◌, ◌≤◌, true, leb, Lis
 use native.Mathlib.Nat.{sub-zero}
 use Rattle.std.proofs.lemmas.List.{take_rest}
 use Rattle.std.proofs.lemmas.Bool.{le-leb}
-use Rattle.model.specs.Tree.{Text}
-use Rattle.model.specs.Read.{Out, read, fault, bind, number, cut, text}
+use Rattle.model.specs.Read.{Out, read, bind, number, cut, text}
 
 pub cut-within : (n k l : ℕ) (r : List ℕ) → l ≡ k → l ≤ length r → cut n k r ≡ read (take (l - 0) r) (take (length r - l) (drop l r))
 cut-within n k l r e h =

@@ -2,7 +2,6 @@
 use Rattle.std.proofs.Common.{◌≡◌, ℕ, zero, suc, ◌≤◌, eqb, List, [], ◌∷◌, ◌++◌, length, refl, ap, ◌∙◌, subst, append-nil, arith}
 use Rattle.std.proofs.lemmas.Bool.{cond_both, eqb-true}
 use Rattle.model.specs.Tree.{Text, Attribute, Function, Classes, Module, Modules, module_depth, modules_depth, pymodule, no_module, add_module}
-use Rattle.model.specs.Encode as Encode
 use Rattle.model.specs.Encode.{module_bytes, modules_bytes, modules_count, encode}
 use Rattle.model.specs.Places.{module_at, modules_at}
 use Rattle.model.specs.Read.{Out, read, fault, place, fields, listed, attributes, functions, classes, module_over, one_module, ended, model}

@@ -1,11 +1,11 @@
 -- Noting as one goes gives, for each rule, the least of all places at which it shows.
-use Rattle.std.proofs.Common.{◌≡◌, ℕ, ◌≤◌, min, Bool, true, false, List, [], ◌∷◌, ◌++◌, Some, None, Option, sym, refl, ap, ◌∙◌, arith}
+use Rattle.std.proofs.Common.{◌≡◌, ℕ, min, Bool, true, false, List, [], ◌∷◌, ◌++◌, Some, None, Option, sym, refl, ap, ◌∙◌, arith}
 use Rattle.text.specs.Names.{identifier, dotted}
 use Rattle.model.specs.declared.findings.Findings.{Findings}
 use Rattle.model.specs.Tree.{Module}
 use Rattle.model.specs.Read.{Out, read, fault, model}
 use Rattle.model.specs.Rules.{Item, record_name, dotted_name, literal, declared, well_formed, unless, broken_name, broken_value, empty_attribute, places_of, sooner, least, module_items}
-use Rattle.model.specs.Audit.{earlier, note_name, note_value, note_empty, judge_item, judge_all, nothing, Gathered, gather_all, summary, map_out, audit, AuditsTree}
+use Rattle.model.specs.Audit.{earlier, note_name, note_value, note_empty, judge_item, judge_all, nothing, Gathered, gather_all, summary, map_out, AuditsTree}
 use Rattle.model.proofs.ToldModules.{audits_all}
 
 -- the earliest of what was noted and these places

@@ -1,8 +1,7 @@
 -- The whole model: what stands before a fault can be continued; where the bytes ran out, it may be all but the last of them.
-use Rattle.std.proofs.Common.{◌≡◌, ℕ, ◌+◌, ◌-◌, ◌<◌, ◌≤◌, ◌⊎◌, List, ◌++◌, length, take, ap, ◌∙◌, subst, inl, inr, ⊎_elim, arith, length-append}
+use Rattle.std.proofs.Common.{◌≡◌, ℕ, ◌+◌, ◌-◌, List, ◌++◌, length, take, ap, ◌∙◌, subst, inl, inr, ⊎_elim, arith, length-append}
 use Rattle.std.proofs.lemmas.List.{take_at}
 use Rattle.model.specs.Encode.{encode}
-use Rattle.model.specs.Read.{fault, model}
 use Rattle.model.specs.Laws.{Continuable, FaultsInTime}
 use Rattle.model.proofs.Continued.{Any, Good, Cut}
 use Rattle.model.proofs.Formats.{versioned_good}

@@ -1,12 +1,12 @@
 -- The one pass of the code and the reading of a tree agree: what the pass gathers is what the tree holds.
-use Rattle.std.proofs.Common.{◌≡◌, ℕ, zero, suc, ◌+◌, ◌<◌, Bool, true, false, cond, not, ◌||◌, eqb, ltb, List, [], ◌∷◌, ◌++◌, length, is_some, Some, None, Option, sym, refl, ap, ◌∙◌, subst, append_assoc, arith}
+use Rattle.std.proofs.Common.{◌≡◌, ℕ, zero, suc, ◌<◌, Bool, true, false, cond, not, ◌||◌, eqb, ltb, List, [], ◌∷◌, ◌++◌, is_some, Some, None, Option, sym, refl, ap, ◌∙◌, subst, arith}
 use Rattle.std.proofs.lemmas.Bool.{ltb-true}
 use Rattle.text.specs.Names.{identifier}
 use Rattle.model.specs.declared.findings.Findings.{Findings}
-use Rattle.model.specs.Tree.{Expr, Exprs, Attribute, Argument, Star, Function, end, item}
+use Rattle.model.specs.Tree.{Expr, Exprs, end, item}
 use Rattle.model.specs.Read.{Out, read, fault, bind, place, number, text, fields, star_fields, count, bit, rows, listed, optional, Head, head, constant_head, name_head, attr_head, binop_head, tuple_head, list_head, subscript_head, parts, expr, exprs, attribute, argument, arguments, star, function}
-use Rattle.model.specs.Rules.{Item, record_name, declared, expr_items, exprs_items, each_items, any_items, attribute_items, argument_items, star_items, function_items}
-use Rattle.model.specs.Audit.{note_name, note_empty, note_head, laps, audit_list, audit_any, audit_parts, audit_expr, audit_name, audit_pair, audit_attribute, audit_argument, audit_star, audit_exprs, audit_arguments, audit_parameters, audit_function, judge_item, judge_all, map_out}
+use Rattle.model.specs.Rules.{Item, expr_items, exprs_items, each_items, any_items, attribute_items, argument_items, star_items, function_items}
+use Rattle.model.specs.Audit.{note_name, note_empty, note_head, laps, audit_list, audit_any, audit_parts, audit_expr, audit_name, audit_attribute, audit_argument, audit_star, audit_exprs, audit_arguments, audit_function, judge_item, judge_all, map_out}
 
 pub judge_append : (xs ys : List Item) (f : Findings) → judge_all (xs ++ ys) f ≡ judge_all ys (judge_all xs f)
 judge_append [] ys f = refl

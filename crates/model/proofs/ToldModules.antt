@@ -1,13 +1,13 @@
 -- The same of classes, modules and the whole model: what the one pass gathers is what the tree holds.
-use Rattle.std.proofs.Common.{◌≡◌, ℕ, zero, suc, ◌+◌, Bool, true, false, cond, eqb, List, [], ◌∷◌, ◌++◌, length, set, Some, None, Option, sym, refl, ap, ◌∙◌, subst, append_assoc, arith, length-append}
+use Rattle.std.proofs.Common.{◌≡◌, ℕ, zero, suc, ◌+◌, Bool, true, false, cond, eqb, List, [], ◌∷◌, ◌++◌, length, set, Some, None, Option, sym, refl, ap, ◌∙◌, append_assoc, arith, length-append}
 use Rattle.text.specs.Names.{identifier}
 use Rattle.model.specs.declared.findings.Findings.{Findings}
 use Rattle.model.specs.declared.files.File.{File}
-use Rattle.model.specs.Tree.{Class, Classes, Module, Modules, no_class, add_class, pymodule, no_module, add_module}
-use Rattle.model.specs.Read.{Out, read, fault, bind, place, text, fields, bit, listed, exprs, function, functions, attribute, attributes, class_over, one_class, classes, module_over, one_module, ended, versioned, deepest_allowed, model}
-use Rattle.model.specs.Rules.{Item, record_name, exprs_items, each_items, attribute_items, function_items, class_items, classes_items, module_items, modules_items}
+use Rattle.model.specs.Tree.{Class, Module, Modules, no_class, add_class, pymodule, no_module, add_module}
+use Rattle.model.specs.Read.{Out, read, fault, bind, place, text, fields, bit, listed, exprs, function, functions, attribute, attributes, class_over, one_class, classes, module_over, one_module, ended, deepest_allowed, model}
+use Rattle.model.specs.Rules.{exprs_items, each_items, attribute_items, function_items, class_items, classes_items, module_items, modules_items}
 use Rattle.model.specs.Files.{file, held, Held, modules_within, modules_in, entries, entries_in, helds, helds_in}
-use Rattle.model.specs.Audit.{note_name, audit_list, audit_name, audit_exprs, audit_function, audit_functions, audit_attribute, audit_attributes, audit_members, audit_class_over, audit_class, audit_classes, audit_own, Gathered, opened, audit_rest, audit_module_over, audit_module, audit_end, audit_version, audit, nothing, judge_all, gather_of, gather_all, map_out}
+use Rattle.model.specs.Audit.{note_name, audit_list, audit_exprs, audit_function, audit_functions, audit_attribute, audit_attributes, audit_class_over, audit_class, audit_classes, Gathered, opened, audit_module_over, audit_module, audit_end, audit, nothing, judge_all, gather_of, gather_all, map_out}
 use Rattle.model.proofs.Told.{judge_append, share, chain, last, Tells, listed-told, each-told, exprs-told, attribute-told, function-told, named}
 
 -- steps within steps are steps in a row

@@ -1,10 +1,10 @@
 -- Reading a model as the code does it: in one pass that reads by the format and notes on its way, for each rule, the least
 -- place at which it shows. Proofs tie it to the tree that is read and to the rules on that tree.
-use Rattle.std.specs.Prelude.{◌≡◌, ℕ, zero, suc, ◌+◌, ◌-◌, ◌/◌, ◌%◌, min, Bool, true, false, cond, not, List, [], ◌∷◌, ◌++◌, length, Some, None, Option, ◌==◌, slice_set}
+use Rattle.std.specs.Prelude.{◌≡◌, ℕ, zero, suc, min, Bool, true, false, cond, not, List, [], ◌∷◌, ◌++◌, length, Some, None, Option, ◌==◌, slice_set}
 use Rattle.text.specs.Names.{identifier, dotted}
 use Rattle.model.specs.declared.findings.Findings.{Findings}
-use Rattle.model.specs.Tree.{Text, Constant, Module}
-use Rattle.model.specs.Read.{Out, read, fault, bind, place, byte, number, text, fields, star_fields, count, bit, deepest_allowed, Head, head, constant_head, name_head, attr_head, binop_head, tuple_head, list_head, subscript_head, model}
+use Rattle.model.specs.Tree.{Text, Module}
+use Rattle.model.specs.Read.{Out, read, fault, bind, place, byte, text, fields, star_fields, count, bit, deepest_allowed, Head, head, constant_head, name_head, attr_head, binop_head, tuple_head, list_head, subscript_head, model}
 use Rattle.model.specs.Rules.{well_formed, Item, record_name, dotted_name, literal, declared, module_items, broken_name, broken_value, empty_attribute, places_of, least}
 use Rattle.model.specs.declared.files.File.{File}
 use Rattle.model.specs.Files.{file, Held, held, entries, helds}

@@ -1,5 +1,5 @@
 -- The files of a model, numbered from 0: each module, then its submodules in turn.
-use Rattle.std.specs.Prelude.{ℕ, suc, ◌+◌, List, [], ◌∷◌, ◌++◌, Some, None, Option}
+use Rattle.std.specs.Prelude.{ℕ, ◌+◌, List, [], ◌∷◌, ◌++◌, Some, Option}
 use Rattle.model.specs.declared.files.File.{File}
 use Rattle.model.specs.Tree.{Text, Module, Modules, pymodule, no_module, add_module}
 

@@ -1,5 +1,5 @@
 -- What reading means, in terms of writing.
-use Rattle.std.specs.Prelude.{◌≡◌, ℕ, ◌-◌, ◌<◌, ◌≤◌, ◌⊎◌, ◌↔◌, List, [], ◌∷◌, ◌++◌, length, take, ◌≢◌}
+use Rattle.std.specs.Prelude.{◌≡◌, ℕ, ◌-◌, ◌<◌, ◌≤◌, ◌⊎◌, ◌↔◌, List, [], ◌++◌, length, take, ◌≢◌}
 use Rattle.std.specs.List.{AllByRecursion}
 use Rattle.model.specs.Tree.{Module, module_depth}
 use Rattle.model.specs.Encode.{encode}

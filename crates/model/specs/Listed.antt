@@ -1,5 +1,5 @@
 -- What the reader's list of files is after a step.
-use Rattle.std.specs.Prelude.{◌≡◌, ℕ, List, [], ◌∷◌, ◌++◌, map, vec_items, Option, slice_set}
+use Rattle.std.specs.Prelude.{◌≡◌, ℕ, [], ◌∷◌, ◌++◌, map, vec_items, Option, slice_set}
 use Rattle.model.specs.declared.files.File.{File}
 use Rattle.model.specs.declared.files.Listing.{Listing}
 use Rattle.model.specs.Tree.{Text}

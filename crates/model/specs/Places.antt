@@ -1,8 +1,8 @@
 -- A tree's places are right: each record and expression carries the offset at which its encoding starts, when the tree's own
 -- encoding starts at p. Parts lie behind one another in the order in which they are written.
 use Rattle.std.specs.Prelude.{◌≡◌, ℕ, ◌+◌, List, [], ◌∷◌, length, Some, None, Option}
-use Rattle.model.specs.Tree.{Constant, Expr, Exprs, Attribute, Argument, Star, Function, Class, Classes, Module, Modules, constant, name, attr, binop, tuple, list, subscript, end, item, pyclass, no_class, add_class, pymodule, no_module, add_module}
-use Rattle.model.specs.Encode.{field, any, each, expr_bytes, exprs_field, list_field, attribute_bytes, argument_bytes, star_bytes, function_bytes, class_bytes, classes_bytes, classes_count, module_bytes, modules_bytes, modules_count}
+use Rattle.model.specs.Tree.{Expr, Exprs, Attribute, Argument, Star, Function, Class, Classes, Module, Modules, constant, name, attr, binop, tuple, list, subscript, end, item, pyclass, no_class, add_class, pymodule, no_module, add_module}
+use Rattle.model.specs.Encode.{field, any, expr_bytes, exprs_field, list_field, attribute_bytes, argument_bytes, star_bytes, function_bytes, class_bytes, classes_bytes, classes_count, module_bytes, modules_bytes, modules_count}
 
 -- what comes behind these bytes starts where they end
 abbrev pub behind : ℕ → List ℕ → (ℕ → Type 0) → Type 0

@@ -1,8 +1,8 @@
 -- Reading a model, as the format says: front to back, over the bytes that are left, the first fault ending it. `n` is the
 -- model's length throughout, so that an item's place is n less what is left from it on, and n itself where bytes run out.
 -- The number before the bytes is how deep the tree may still go.
-use Rattle.std.specs.Prelude.{ℕ, zero, suc, ◌+◌, ◌-◌, ◌*◌, ◌/◌, ◌%◌, Bool, true, false, cond, List, [], ◌∷◌, ◌++◌, length, take, drop, Some, None, Option, ◌==◌, nat_le, nat_lt}
-use Rattle.model.specs.Tree.{Text, Constant, Expr, Exprs, Attribute, Argument, Star, Function, Class, Classes, Module, Modules, py_none, py_false, py_true, int, float, str, ellipsis, constant, name, attr, binop, tuple, list, subscript, end, item, pyclass, no_class, add_class, pymodule, no_module, add_module}
+use Rattle.std.specs.Prelude.{ℕ, zero, suc, ◌+◌, ◌-◌, ◌*◌, ◌/◌, ◌%◌, Bool, true, false, cond, List, [], ◌∷◌, length, take, drop, Some, None, Option, ◌==◌, nat_le, nat_lt}
+use Rattle.model.specs.Tree.{Text, Constant, Expr, Exprs, Attribute, Argument, Star, Function, Class, Classes, Module, py_none, py_false, py_true, int, float, str, ellipsis, constant, name, attr, binop, tuple, list, subscript, end, item, pyclass, no_class, add_class, pymodule, no_module, add_module}
 
 -- what was read and the bytes behind it, or the place of the fault
 pub data Out (A : Type 0) : Type 0 where

@@ -1,5 +1,5 @@
 -- The rules on names and values that each record and expression meets or breaks by itself, whatever stands around it.
-use Rattle.std.specs.Prelude.{ℕ, min, Bool, true, false, cond, not, ◌||◌, List, [], ◌∷◌, ◌++◌, is_some, Some, None, Option}
+use Rattle.std.specs.Prelude.{ℕ, min, Bool, true, false, ◌||◌, List, [], ◌∷◌, ◌++◌, is_some, Some, None, Option}
 use Rattle.text.specs.Names.{identifier, dotted}
 use Rattle.text.specs.Numbers.{int as is_int_of, float as is_float}
 use Rattle.text.specs.Utf8.{utf8}

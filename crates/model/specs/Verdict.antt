@@ -1,6 +1,6 @@
 -- The verdict on a model: accepted, or refused by a number at a place. The rules are judged in the order of their numbers, each
 -- over the whole model, and the place is the least at which the first number that shows does show.
-use Rattle.std.specs.Prelude.{ℕ, suc, Bool, true, false, cond, List, [], ◌∷◌, ◌++◌, map, length, drop, Some, None, Option, ◌==◌, nat_lt}
+use Rattle.std.specs.Prelude.{ℕ, cond, List, [], ◌∷◌, ◌++◌, map, length, drop, Some, None, Option, ◌==◌, nat_lt}
 use Rattle.model.specs.Tree.{Text, Module, pymodule}
 use Rattle.model.specs.Read.{Out, read, fault, model}
 use Rattle.model.specs.Rules.{module_items, broken_name, broken_value, empty_attribute, places_of, least}

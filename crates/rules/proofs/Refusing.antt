@@ -1,8 +1,7 @@
 -- A model is refused by the first number that shows, at its least place.
-use Rattle.std.proofs.Common.{◌≡◌, ℕ, ◌<◌, ◌≤◌, min, ◌⊎◌, ◌↔◌, List, [], ◌∷◌, length, Some, None, Option, sym, refl, ap, ◌∙◌, subst, inl, inr, ⊎_elim, arith, lit<}
+use Rattle.std.proofs.Common.{◌≡◌, ℕ, ◌<◌, ◌≤◌, min, ◌⊎◌, List, [], ◌∷◌, Some, None, Option, sym, refl, ap, ◌∙◌, subst, inl, inr, ⊎_elim, arith, lit<}
 use Rattle.std.proofs.lemmas.Bool.{cases_lt}
 use Rattle.model.specs.Tree.{Module}
-use Rattle.model.specs.Read.{Out, read, model}
 use Rattle.model.specs.Rules.{least, sooner}
 use Rattle.model.specs.Verdict.{Verdict, accepted, refused, refused_at, judged, judged_out, verdict}
 use Rattle.model.proofs.Sized.{within_size}

@@ -10,7 +10,7 @@ use Rattle.model.specs.Files.{files}
 use Rattle.model.specs.Uses.{Use, Declared, builtins, collected, declarations}
 use Rattle.model.specs.Limits.{distinct, same_text_of, same_reference}
 use Rattle.model.specs.Laws.{Bytes, Describes}
-use Rattle.model.specs.Verdict.{Verdict, accepted, module_name, verdict}
+use Rattle.model.specs.Verdict.{accepted, module_name, verdict}
 
 -- a record's name is an identifier, and the text of a Name or an Attribute a dotted name
 abbrev pub NameMeets : Item → Type 0

@@ -1,5 +1,5 @@
 -- The verdict that the rules give of a tree is the one that comes of what reading has gathered.
-use Rattle.std.proofs.Common.{◌≡◌, ℕ, ◌+◌, ◌<◌, ◌≤◌, List, [], ◌∷◌, ◌++◌, map, length, drop, IsErrAnd, Some, None, vec_items, Option, Result, Vec, sym, refl, ap, ◌∙◌, subst, arith}
+use Rattle.std.proofs.Common.{◌≡◌, ℕ, ◌+◌, ◌≤◌, List, [], ◌∷◌, ◌++◌, map, length, drop, IsErrAnd, Some, None, vec_items, Option, Result, Vec, sym, refl, ap, ◌∙◌, subst, arith}
 use Rattle.std.specs.declared.alloc.Global.{Global}
 use Rattle.std.proofs.lemmas.Result.{err_from_is_err_and}
 use Rattle.model.specs.declared.files.File.{File}
@@ -7,13 +7,13 @@ use Rattle.model.specs.declared.files.Sibling.{Sibling}
 use Rattle.model.specs.declared.files.Listing.{Listing}
 use Rattle.model.specs.declared.findings.Findings.{Findings}
 use Rattle.model.specs.Steps.{held_of, gathered}
-use Rattle.model.specs.Tree.{Classes, Function, Attribute, Module, Modules, pymodule, no_module, add_module}
+use Rattle.model.specs.Tree.{Module, Modules, pymodule, no_module, add_module}
 use Rattle.model.specs.Read.{Out, read, fault, model}
 use Rattle.model.specs.Rules.{least, places_of, broken_name, module_items}
 use Rattle.model.specs.Files.{files, files_in, entries, entries_in, helds, modules_within}
 use Rattle.model.specs.Laws.{Bytes}
 use Rattle.model.specs.Audit.{Gathered, map_out, summary}
-use Rattle.model.specs.Verdict.{Verdict, accepted, refused, refused_at, module_place, root_name, broken_names, broken_values, repeated_modules, empty_attributes, surplus, surplus_modules, surplus_in_file, surplus_in_files, modules_allowed, judged, judged_out, verdict}
+use Rattle.model.specs.Verdict.{Verdict, accepted, refused_at, module_place, root_name, broken_values, repeated_modules, empty_attributes, surplus, surplus_modules, surplus_in_file, surplus_in_files, modules_allowed, judged, judged_out, verdict}
 use Rattle.model.proofs.Sized.{within_size}
 use Rattle.walk.specs.Total.{Own, own_in}
 use Rattle.walk.specs.Reached.{own_of}

@@ -8,7 +8,7 @@ use Rattle.model.specs.Rules.{least, sooner}
 use Rattle.model.specs.Files.{Held, entries}
 use Rattle.model.specs.Uses.{builtins, collected, declarations}
 use Rattle.model.specs.Limits.{same_text_of, repeated_siblings, surplus_uses, surplus_declared_of}
-use Rattle.model.specs.Verdict.{Verdict, accepted, refused, refused_at, modules_allowed, verdict}
+use Rattle.model.specs.Verdict.{Verdict, accepted, refused_at, modules_allowed, verdict}
 use Rattle.model.specs.Audit.{Gathered}
 use Rattle.walk.specs.Total.{Own, own_in}
 use Rattle.verdict.specs.declared.refusal.Refusal.{Refusal}

@@ -1,6 +1,6 @@
 -- The reading that checks and the total one agree, item by item.
 use Rattle.std.proofs.Common.{◌≡◌, ℕ, zero, suc, ◌*◌, ◌≤◌, Bool, true, false, cond, eqb, ltb, leb, List, [], ◌∷◌, length, take, drop, Some, sym, refl, subst, arith}
-use Rattle.model.specs.Tree.{Text, Expr, Exprs, Class, int, float, str, name, attr, binop, tuple, list, subscript, end, item, pyclass, no_class, add_class}
+use Rattle.model.specs.Tree.{Text, Expr, Exprs, Class, int, float, str, attr, binop, tuple, list, subscript, end, item, pyclass, no_class, add_class}
 use Rattle.model.specs.Read as Read
 use Rattle.model.specs.Read.{Out, read, fault, bind, place, bit, Head, constant_head, name_head, attr_head, binop_head, tuple_head, list_head, subscript_head, expr as strict_expr, one_class as strict_class}
 use Rattle.model.proofs.Parts.{Body, last, next, framed}
