@@ -15,7 +15,7 @@ use Rattle.model.specs.declared.uses.Declared.{Declared as DeclaredOf}
 use Rattle.model.specs.Uses.{Use}
 use Rattle.references.specs.declared.reference.Reference.{Reference as ReferenceOf}
 use Rattle.references.specs.References.{Reference, order, pair_of, reference_of, references, sorted, name_of, root_of, lacks}
-use Rattle.references.specs.Kept.{Keeps, Names, spelled, by_bytes, orders, by_texts}
+use Rattle.references.specs.Kept.{Keeps, Names, text_cmp, by_bytes, reference_cmp, by_texts}
 use Rattle.references.proofs.Ties.{order_ties, text_ties}
 use Rattle.references.proofs.Listed.{ascends-sorted, occurs-sorted, one_list, or_swap}
 
@@ -60,14 +60,14 @@ module _ {K B : Type 0} {R : K → K → Ordering} (o : IsTotalOrder R) (f : K �
 abbrev pub pair_of_use : UseOf → Reference
 pair_of_use u = reference_of (use_of u)
 
-pub key_ties : (x y : ReferenceOf) → eq_by_cmp orders x y ≡ same_reference (pair_of x) (pair_of y)
+pub key_ties : (x y : ReferenceOf) → eq_by_cmp reference_cmp x y ≡ same_reference (pair_of x) (pair_of y)
 key_ties x y = order_ties (pair_of x) (pair_of y)
 
-all_map : (r : ReferenceOf) (ks : List ReferenceOf) → AllByRecursion (λ y. orders r y ≡ Less) ks → AllByRecursion (λ y. order (pair_of r) y ≡ Less) (map pair_of ks)
+all_map : (r : ReferenceOf) (ks : List ReferenceOf) → AllByRecursion (λ y. reference_cmp r y ≡ Less) ks → AllByRecursion (λ y. order (pair_of r) y ≡ Less) (map pair_of ks)
 all_map r [] h = tt
 all_map r (k ∷ ks) h = (h.0, all_map r ks h.1)
 
-ascends-map : (ks : List ReferenceOf) → IsStrictlySortedBy (λ x y. orders x y) ks → IsStrictlySortedBy order (map pair_of ks)
+ascends-map : (ks : List ReferenceOf) → IsStrictlySortedBy (λ x y. reference_cmp x y) ks → IsStrictlySortedBy order (map pair_of ks)
 unfolding IsStrictlySortedBy
 ascends-map [] h = tt
 ascends-map (k ∷ ks) h = (all_map k ks h.0, ascends-map ks h.1)
@@ -76,7 +76,7 @@ abbrev key_of : UseOf → ReferenceOf
 key_of u = record { from = u.from; name = u.name }
 
 pub references-more : (us : List UseOf) (i : ℕ) (d : UseOf) (s n : BTreeSet ReferenceOf) → i < length us
-    → Updates orders s n (key_of (get_or us i d)) true → IsOrdered orders n → Keeps by_texts pair_of same_reference (map pair_of_use (take i us)) s
+    → Updates reference_cmp s n (key_of (get_or us i d)) true → IsOrdered reference_cmp n → Keeps by_texts pair_of same_reference (map pair_of_use (take i us)) s
     → Keeps by_texts pair_of same_reference (map pair_of_use (take (i + 1) us)) n
 references-more us i d s n l put after h =
     keeps_more by_texts pair_of same_reference key_ties pair_of_use us i d s n (key_of (get_or us i d)) l refl put after h
@@ -108,7 +108,7 @@ abbrev pub name_of_declared : DeclaredOf → List ℕ
 name_of_declared d = name_of (declared_of d)
 
 pub names_more : (ds : List DeclaredOf) (i : ℕ) (d : DeclaredOf) (s n : BTreeSet (Bor (List ℕ))) → i < length ds
-    → Updates spelled s n (get_or ds i d).name true → IsOrdered spelled n → Names (map name_of_declared (take i ds)) s → Names (map name_of_declared (take (i + 1) ds)) n
+    → Updates text_cmp s n (get_or ds i d).name true → IsOrdered text_cmp n → Names (map name_of_declared (take i ds)) s → Names (map name_of_declared (take (i + 1) ds)) n
 names_more ds i d s n l put after h =
     keeps_more by_bytes (λ x. x.now) same_text_of (λ x y. text_ties x.now y.now) name_of_declared ds i d s n (get_or ds i d).name l refl put after h
 
@@ -125,6 +125,6 @@ pub lacks-none : (own : List ℕ) (names : List (List ℕ)) (u : Use) → false 
 lacks-none own names u e = ap (λ b. b && not (occurs same_text_of (root_of u.name) names)) e
 
 pub lacks-root : (own : List ℕ) (names : List (List ℕ)) (u : Use) (s : BTreeSet (Bor (List ℕ))) (root : Bor (List ℕ)) (there : Bool)
-    → true ≡ same_text_of u.from own → root.now ≡ root_of u.name → there ≡ contains spelled s root → Names names s → not there ≡ lacks own names u
+    → true ≡ same_text_of u.from own → root.now ≡ root_of u.name → there ≡ contains text_cmp s root → Names names s → not there ≡ lacks own names u
 lacks-root own names u s root there e is found h =
     ap not (found ∙ h.holds root ∙ ap (λ t. occurs same_text_of t names) is) ∙ ap (λ b. b && not (occurs same_text_of (root_of u.name) names)) e

@@ -16,10 +16,10 @@ pub record Keeps {K B : Type 0} {R : K → K → Ordering} (o : IsTotalOrder R) 
   pub holds : (q : K) → contains R s q ≡ occurs e (f q) bs
 
 -- the order of texts: by their bytes
-abbrev pub spelled : Bor (List ℕ) → Bor (List ℕ) → Ordering
-spelled x y = slice_cmp nat_cmp x.now y.now
+abbrev pub text_cmp : Bor (List ℕ) → Bor (List ℕ) → Ordering
+text_cmp x y = slice_cmp nat_cmp x.now y.now
 
-abbrev pub by_bytes : IsTotalOrder spelled
+abbrev pub by_bytes : IsTotalOrder text_cmp
 by_bytes = on_total (λ (x : Bor (List ℕ)). x.now) (lists_total nat_cmp_total)
 
 -- the set holds the names
@@ -27,8 +27,8 @@ abbrev pub Names : List (List ℕ) → BTreeSet (Bor (List ℕ)) → Type 0
 Names ns s = Keeps by_bytes (λ x. x.now) same_text_of ns s
 
 -- the order of references as the code derives it: by the module, then by the attribute
-abbrev pub orders : ReferenceOf → ReferenceOf → Ordering
-orders = then_cmp (on (λ (r : ReferenceOf). r.from) spelled) (on (λ (r : ReferenceOf). r.name) spelled)
+abbrev pub reference_cmp : ReferenceOf → ReferenceOf → Ordering
+reference_cmp = then_cmp (on (λ (r : ReferenceOf). r.from) text_cmp) (on (λ (r : ReferenceOf). r.name) text_cmp)
 
-abbrev pub by_texts : IsTotalOrder orders
+abbrev pub by_texts : IsTotalOrder reference_cmp
 by_texts = then_total (on_total (λ (r : ReferenceOf). r.from) by_bytes) (on_total (λ (r : ReferenceOf). r.name) by_bytes)
