@@ -1,12 +1,12 @@
 -- One binding more, in the list of bindings and in the indexes.
-use Rattle.std.proofs.Common.{◌≡◌, ℕ, zero, suc, ◌+◌, ◌-◌, ◌<◌, ◌≤◌, Bool, true, false, cond, not, ◌||◌, eqb, List, [], ◌∷◌, ◌++◌, map, length, take, drop, is_some, IfSome, Some, None, vec_items, Option, Vec, sym, refl, ap, ◌∙◌, subst, arith, length-append, Bor, MutBor}
+use Rattle.std.proofs.Common.{◌≡◌, ℕ, zero, suc, ◌+◌, ◌≤◌, Bool, true, false, cond, ◌||◌, eqb, List, [], ◌∷◌, ◌++◌, length, take, drop, is_some, IfSome, Some, None, vec_items, Option, Vec, sym, refl, ap, ◌∙◌, subst, arith, length-append, Bor}
 use Rattle.std.specs.List.{AllByRecursion}
 use Rattle.std.specs.declared.alloc.Global.{Global}
 use Rattle.std.proofs.lemmas.Bool.{or_right, eqb-true, eqb-false}
 use Rattle.naming.specs.Next.{proposal}
 use Rattle.binding.specs.declared.name.Last.{Last}
 use Rattle.std.specs.Ordering.{eq_by_cmp}
-use Rattle.std.specs.Cmp.Lexicographic.{Lex}
+use Rattle.std.specs.Cmp.{eq_by_cmp_equiv}
 use Rattle.std.specs.BTreeSet.{BTreeSet}
 use Rattle.std.specs.BTreeMap as tree
 use Rattle.std.specs.BTreeSet as bag
@@ -15,7 +15,7 @@ use Rattle.model.specs.Tree.{Text}
 use Rattle.model.specs.Limits.{same_text_of, same_reference}
 use Rattle.references.specs.declared.reference.Reference.{Reference as ReferenceOf}
 use Rattle.references.specs.References.{pair_of}
-use Rattle.references.specs.Kept.{Orders, Spelled, by_bytes, by_texts}
+use Rattle.references.specs.Kept.{reference_cmp, text_cmp, by_bytes, by_texts}
 use Rattle.references.proofs.Kept.{key_ties}
 use Rattle.references.proofs.Ties.{same-is, text-is, text_itself, text_ties}
 use Rattle.std.specs.BTreeMap.{BTreeMap}
@@ -25,7 +25,7 @@ use Rattle.binding.specs.declared.name.Entry.{Entry}
 use Rattle.binding.specs.declared.binder.Binder.{Binder}
 use Rattle.binding.specs.Binding.{Binding, binding, Target, find, name_of}
 use Rattle.binding.specs.Held.{text_of, binding_of, bindings_of}
-use Rattle.binding.specs.Sound.{Numbered, by_vectors, pool_of, bindings_in, Within, Shows, Bounded, Reached, Comes, Started, Indexed, Grows, Enters}
+use Rattle.binding.specs.Sound.{alias_cmp, by_vectors, pool_of, bindings_in, Within, Shows, Bounded, Comes, Started, Indexed, Grows, Enters}
 use Rattle.binding.proofs.Ors.{or_behind, or_grouped, true_or}
 use Rattle.binding.proofs.Binds.{or_else, find-more, name-more}
 
@@ -75,41 +75,41 @@ find_more_some b w t x = ap is_some (find-more b (binding w t) x) ∙ some_else 
 -- ---- the sets of names
 
 module _ (names : BTreeSet (Bor (List ℕ))) (aliases : BTreeSet (Vec ℕ Global)) where
-  pub root-put : (names' : BTreeSet (Bor (List ℕ))) (k : Bor (List ℕ)) → bag.Updates Spelled names names' k true → bag.IsOrdered by_bytes names
+  pub root-put : (names' : BTreeSet (Bor (List ℕ))) (k : Bor (List ℕ)) → bag.Updates text_cmp names names' k true
       → (q : Bor (List ℕ)) (v : Vec ℕ Global) → vec_items v ≡ q.now
-      → (bag.contains by_bytes names' q || bag.contains by_vectors aliases v) ≡ (same_text_of q.now k.now || (bag.contains by_bytes names q || bag.contains by_vectors aliases v))
-  root-put names' k put o q v e =
-      ap (λ c. c || bag.contains by_vectors aliases v) ((put by_bytes o).1 q ∙ true_or (eq_by_cmp by_bytes q k) (bag.contains by_bytes names q) ∙ ap (λ c. c || bag.contains by_bytes names q) (text_ties q.now k.now))
-      ∙ or_grouped (same_text_of q.now k.now) (bag.contains by_bytes names q) (bag.contains by_vectors aliases v)
+      → (bag.contains text_cmp names' q || bag.contains alias_cmp aliases v) ≡ (same_text_of q.now k.now || (bag.contains text_cmp names q || bag.contains alias_cmp aliases v))
+  root-put names' k put q v e =
+      ap (λ c. c || bag.contains alias_cmp aliases v) (put.0 q ∙ true_or (eq_by_cmp text_cmp k q) (bag.contains text_cmp names q) ∙ ap (λ c. c || bag.contains text_cmp names q) ((eq_by_cmp_equiv by_bytes).symm k q ∙ text_ties q.now k.now))
+      ∙ or_grouped (same_text_of q.now k.now) (bag.contains text_cmp names q) (bag.contains alias_cmp aliases v)
 
-  pub alias_put : (aliases' : BTreeSet (Vec ℕ Global)) (k : Vec ℕ Global) → bag.Updates (λ x y. Lex Numbered (vec_items x) (vec_items y)) aliases aliases' k true → bag.IsOrdered by_vectors aliases
+  pub alias_put : (aliases' : BTreeSet (Vec ℕ Global)) (k : Vec ℕ Global) → bag.Updates alias_cmp aliases aliases' k true
       → (q : Bor (List ℕ)) (v : Vec ℕ Global) → vec_items v ≡ q.now
-      → (bag.contains by_bytes names q || bag.contains by_vectors aliases' v) ≡ (same_text_of q.now (vec_items k) || (bag.contains by_bytes names q || bag.contains by_vectors aliases v))
-  alias_put aliases' k put o q v e =
-      ap (λ c. bag.contains by_bytes names q || c)
-      ((put by_vectors o).1 v ∙ true_or (eq_by_cmp by_vectors v k) (bag.contains by_vectors aliases v) ∙ ap (λ c. c || bag.contains by_vectors aliases v) (text_ties (vec_items v) (vec_items k) ∙ ap (λ x. same_text_of x (vec_items k)) e))
-      ∙ or_behind (bag.contains by_bytes names q) (same_text_of q.now (vec_items k)) (bag.contains by_vectors aliases v)
+      → (bag.contains text_cmp names q || bag.contains alias_cmp aliases' v) ≡ (same_text_of q.now (vec_items k) || (bag.contains text_cmp names q || bag.contains alias_cmp aliases v))
+  alias_put aliases' k put q v e =
+      ap (λ c. bag.contains text_cmp names q || c)
+      (put.0 v ∙ true_or (eq_by_cmp alias_cmp k v) (bag.contains alias_cmp aliases v) ∙ ap (λ c. c || bag.contains alias_cmp aliases v) ((eq_by_cmp_equiv by_vectors).symm k v ∙ text_ties (vec_items v) (vec_items k) ∙ ap (λ x. same_text_of x (vec_items k)) e))
+      ∙ or_behind (bag.contains text_cmp names q) (same_text_of q.now (vec_items k)) (bag.contains alias_cmp aliases v)
 
 bounded_kept : (b : List Binding) (e : Binding) (o : Option Text) → Bounded b o → Bounded (b ++ e ∷ []) o
 bounded_kept b e None h = h
 bounded_kept b e (Some w) h = find_more_some b e.name e.target w ∙ or_right (same_text_of w e.name) (is_some (find b w)) h
 
 module _ (s s' : Binder) (t : ReferenceOf) (n : Name) (w : Text) (grows : Grows (pool_of s) (pool_of s')) (is : text_of (pool_of s') n ≡ w) (lies : Within (length (pool_of s')) n) (x : Indexed s) (unnamed : name_of (bindings_in s) (pair_of t) ≡ None) where
-  finds-more : tree.Updates Orders s.targets s'.targets t (Some n) → bindings_in s' ≡ bindings_in s ++ binding w (pair_of t) ∷ []
-      → (q : ReferenceOf) → Shows (pool_of s') (tree.get by_texts s'.targets q) (name_of (bindings_in s') (pair_of q))
+  finds-more : tree.Updates reference_cmp s.targets s'.targets t (Some n) → bindings_in s' ≡ bindings_in s ++ binding w (pair_of t) ∷ []
+      → (q : ReferenceOf) → Shows (pool_of s') (tree.get reference_cmp s'.targets q) (name_of (bindings_in s') (pair_of q))
   finds-more put more q =
-      subst (λ b. Shows (pool_of s') (tree.get by_texts s'.targets q) (name_of b (pair_of q))) (sym more)
-      (subst (λ o. Shows (pool_of s') (tree.get by_texts s'.targets q) o) (sym (name-more (bindings_in s) (binding w (pair_of t)) (pair_of q)))
-      (subst (λ o. Shows (pool_of s') o (or_else (name_of (bindings_in s) (pair_of q)) (cond (same_reference (pair_of q) (pair_of t)) (Some w) None))) (sym ((put by_texts x.targets).1 q ∙ ap (λ c. cond c (Some n) (tree.get by_texts s.targets q)) (key_ties q t)))
+      subst (λ b. Shows (pool_of s') (tree.get reference_cmp s'.targets q) (name_of b (pair_of q))) (sym more)
+      (subst (λ o. Shows (pool_of s') (tree.get reference_cmp s'.targets q) o) (sym (name-more (bindings_in s) (binding w (pair_of t)) (pair_of q)))
+      (subst (λ o. Shows (pool_of s') o (or_else (name_of (bindings_in s) (pair_of q)) (cond (same_reference (pair_of q) (pair_of t)) (Some w) None))) (sym (put.0 q ∙ ap (λ c. cond c (Some n) (tree.get reference_cmp s.targets q)) ((eq_by_cmp_equiv by_texts).symm t q ∙ key_ties q t)))
       (go (same_reference (pair_of q) (pair_of t)) refl)))
     where
-      go : (c : Bool) → same_reference (pair_of q) (pair_of t) ≡ c → Shows (pool_of s') (cond c (Some n) (tree.get by_texts s.targets q)) (or_else (name_of (bindings_in s) (pair_of q)) (cond c (Some w) None))
+      go : (c : Bool) → same_reference (pair_of q) (pair_of t) ≡ c → Shows (pool_of s') (cond c (Some n) (tree.get reference_cmp s.targets q)) (or_else (name_of (bindings_in s) (pair_of q)) (cond c (Some w) None))
       go true e =
           let none : name_of (bindings_in s) (pair_of q) ≡ None = ap (name_of (bindings_in s)) (same-is (pair_of q) (pair_of t) e) ∙ unnamed in
           subst (λ o. Shows (pool_of s') (Some n) (or_else o (Some w))) (sym none) (is, lies)
       go false e =
-          subst (λ o. Shows (pool_of s') (tree.get by_texts s.targets q) o) (sym (or_none (name_of (bindings_in s) (pair_of q))))
-          (shows-grown (pool_of s) (pool_of s') grows (tree.get by_texts s.targets q) (name_of (bindings_in s) (pair_of q)) (x.finds q))
+          subst (λ o. Shows (pool_of s') (tree.get reference_cmp s.targets q) o) (sym (or_none (name_of (bindings_in s) (pair_of q))))
+          (shows-grown (pool_of s) (pool_of s') grows (tree.get reference_cmp s.targets q) (name_of (bindings_in s) (pair_of q)) (x.finds q))
 
   starts_kept : (b : List Binding) (e : Binding) (root : Text) (o : Option Last) → IfSome o (Started (pool_of s) b root) → IfSome o (Started (pool_of s') (b ++ e ∷ []) root)
   starts_kept b e root None h = tt
@@ -119,13 +119,13 @@ module _ (s s' : Binder) (t : ReferenceOf) (n : Name) (w : Text) (grows : Grows 
   }
 
   pub enters : vec_items s'.entries ≡ vec_items s.entries ++ record { name = n; from = t.from; root = t.name } ∷ []
-      → tree.Updates Orders s.targets s'.targets t (Some n)
-      → bag.IsOrdered by_bytes s'.names → bag.IsOrdered by_vectors s'.aliases → tree.IsOrdered by_bytes s'.lasts
-      → ((q : MutBor (List ℕ)) → ((o : Option Last) → IfSome o (Started (pool_of s) (bindings_in s) q.now) → IfSome o (Started (pool_of s') (bindings_in s ++ binding w (pair_of t) ∷ []) q.now)) → IfSome (tree.get by_bytes s'.lasts q) (Started (pool_of s') (bindings_in s ++ binding w (pair_of t) ∷ []) q.now))
-      → ((q : MutBor (List ℕ)) (v : Vec ℕ Global) → vec_items v ≡ q.now
-      → (bag.contains by_bytes s'.names q || bag.contains by_vectors s'.aliases v) ≡ (same_text_of q.now w || (bag.contains by_bytes s.names q || bag.contains by_vectors s.aliases v)))
+      → tree.Updates reference_cmp s.targets s'.targets t (Some n)
+      → tree.IsOrdered reference_cmp s'.targets → bag.IsOrdered text_cmp s'.names → bag.IsOrdered alias_cmp s'.aliases → tree.IsOrdered text_cmp s'.lasts
+      → ((q : Bor (List ℕ)) → ((o : Option Last) → IfSome o (Started (pool_of s) (bindings_in s) q.now) → IfSome o (Started (pool_of s') (bindings_in s ++ binding w (pair_of t) ∷ []) q.now)) → IfSome (tree.get text_cmp s'.lasts q) (Started (pool_of s') (bindings_in s ++ binding w (pair_of t) ∷ []) q.now))
+      → ((q : Bor (List ℕ)) (v : Vec ℕ Global) → vec_items v ≡ q.now
+      → (bag.contains text_cmp s'.names q || bag.contains alias_cmp s'.aliases v) ≡ (same_text_of q.now w || (bag.contains text_cmp s.names q || bag.contains alias_cmp s.aliases v)))
       → Enters s w (pair_of t) n s'
-  enters listed put on oa ol starts has =
+  enters listed put ot on oa ol starts has =
       let e : Entry = record { name = n; from = t.from; root = t.name } in
       let more : bindings_in s' ≡ bindings_in s ++ binding w (pair_of t) ∷ [] =
       ap (bindings_of (pool_of s')) listed ∙ map-append (binding_of (pool_of s')) (vec_items s.entries) (e ∷ [])
@@ -134,12 +134,12 @@ module _ (s s' : Binder) (t : ReferenceOf) (n : Name) (w : Text) (grows : Grows 
         bindings = more;
         indexed = record {
           within = subst (λ es. AllByRecursion (λ e. Within (length (pool_of s')) e.name) es) (sym listed) (within_grown (pool_of s) (pool_of s') grows (vec_items s.entries) x.within e lies);
-          targets = (put by_texts x.targets).0;
+          targets = ot;
           finds = finds-more put more;
           names = on;
           aliases = oa;
           lasts = ol;
-          starts = λ q. subst (λ b. IfSome (tree.get by_bytes s'.lasts q) (Started (pool_of s') b q.now)) (sym more) (starts q (starts_kept (bindings_in s) (binding w (pair_of t)) q.now));
+          starts = λ q. subst (λ b. IfSome (tree.get text_cmp s'.lasts q) (Started (pool_of s') b q.now)) (sym more) (starts q (starts_kept (bindings_in s) (binding w (pair_of t)) q.now));
           taken = λ q v same.
               has q v same ∙ ap (λ c. same_text_of q.now w || c) (x.taken q v same) ∙ sym (find_more_some (bindings_in s) w (pair_of t) q.now) ∙ ap (λ b. is_some (find b q.now)) (sym more);
         };
@@ -172,13 +172,13 @@ find_new_some : (b : List Binding) (w : Text) (t : Target) → is_some (find (b 
 find_new_some b w t = find_more_some b w t w ∙ ap (λ c. c || is_some (find b w)) (text_itself w)
 
 pub last_put : (before pool : List ℕ) (b : List Binding) (w : Text) (t : Target) (lasts lasts' : BTreeMap (Bor (List ℕ)) Last) (k : Bor (List ℕ)) (l : Last)
-    → tree.Updates Spelled lasts lasts' k (Some l) → tree.IsOrdered by_bytes lasts
+    → tree.Updates text_cmp lasts lasts' k (Some l)
     → text_of pool (Alias l.part) ≡ w → Within (length pool) (Alias l.part) → Comes b k.now w l.number
-    → ((q : Bor (List ℕ)) → IfSome (tree.get by_bytes lasts q) (Started before b q.now))
+    → ((q : Bor (List ℕ)) → IfSome (tree.get text_cmp lasts q) (Started before b q.now))
     → (q : Bor (List ℕ)) → ((o : Option Last) → IfSome o (Started before b q.now) → IfSome o (Started pool (b ++ binding w t ∷ []) q.now))
-    → IfSome (tree.get by_bytes lasts' q) (Started pool (b ++ binding w t ∷ []) q.now)
-last_put before pool b w t lasts lasts' k l put o is lies comes old q kept =
-    subst (λ x. IfSome x (Started pool (b ++ binding w t ∷ []) q.now)) (sym ((put by_bytes o).1 q ∙ ap (λ c. cond c (Some l) (tree.get by_bytes lasts q)) (text_ties q.now k.now)))
+    → IfSome (tree.get text_cmp lasts' q) (Started pool (b ++ binding w t ∷ []) q.now)
+last_put before pool b w t lasts lasts' k l put is lies comes old q kept =
+    subst (λ x. IfSome x (Started pool (b ++ binding w t ∷ []) q.now)) (sym (put.0 q ∙ ap (λ c. cond c (Some l) (tree.get text_cmp lasts q)) ((eq_by_cmp_equiv by_bytes).symm k q ∙ text_ties q.now k.now)))
     (go (same_text_of q.now k.now) refl)
   where
     upto : (i : ℕ) → i ≤ l.number → Bounded (b ++ binding w t ∷ []) (proposal k.now i)
@@ -188,6 +188,6 @@ last_put before pool b w t lasts lasts' k l put o is lies comes old q kept =
         at true e = subst (λ j. Bounded (b ++ binding w t ∷ []) (proposal k.now j)) (sym (eqb-true i l.number e)) (subst (Bounded (b ++ binding w t ∷ [])) (sym comes.is) (find_new_some b w t))
         at false e = let d = eqb-false i l.number e in bounded_kept b (binding w t) (proposal k.now i) (comes.below i (omega arith))
 
-    go : (c : Bool) → same_text_of q.now k.now ≡ c → IfSome (cond c (Some l) (tree.get by_bytes lasts q)) (Started pool (b ++ binding w t ∷ []) q.now)
+    go : (c : Bool) → same_text_of q.now k.now ≡ c → IfSome (cond c (Some l) (tree.get text_cmp lasts q)) (Started pool (b ++ binding w t ∷ []) q.now)
     go true e = subst (λ root. Started pool (b ++ binding w t ∷ []) root l) (sym (text-is q.now k.now e)) record { reached = record { is = comes.is ∙ ap Some (sym is); upto = upto }; lies = lies }
-    go false e = kept (tree.get by_bytes lasts q) (old q)
+    go false e = kept (tree.get text_cmp lasts q) (old q)

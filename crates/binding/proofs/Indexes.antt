@@ -1,31 +1,29 @@
 -- What the indexes tell of the bindings.
-use Rattle.std.proofs.Common.{◌≡◌, ℕ, zero, suc, ◌+◌, ◌-◌, ◌^◌, ◌<◌, ◌≤◌, Bool, true, false, cond, not, ◌||◌, eqb, List, [], ◌∷◌, ◌++◌, map, length, is_some, Some, None, vec_items, Option, Vec, unwrap_or, sym, refl, ap, ◌∙◌, subst, add-one, arith, Bor}
+use Rattle.std.proofs.Common.{◌≡◌, ℕ, zero, suc, ◌+◌, ◌-◌, ◌^◌, ◌<◌, ◌≤◌, Bool, true, false, cond, not, ◌||◌, eqb, List, [], length, is_some, Some, None, vec_items, Option, Vec, sym, refl, ap, ◌∙◌, subst, add-one, arith, Bor}
 use Rattle.std.specs.declared.alloc.Global.{Global}
-use Rattle.std.specs.Option.{option_map}
 use Rattle.std.specs.BTreeSet as bag
 use Rattle.std.proofs.lemmas.Bool.{false≢true, eqb-true, eqb-false}
 use Rattle.model.specs.Tree.{Text}
 use Rattle.naming.specs.Next.{next_name, following, proposal, Appended}
-use Rattle.references.specs.Kept.{by_bytes, by_texts}
+use Rattle.references.specs.Kept.{text_cmp}
 use Rattle.binding.specs.declared.binder.Binder.{Binder}
 use Rattle.binding.specs.Binding.{Binding, find, chosen}
-use Rattle.binding.specs.Sound.{by_vectors, bindings_in, Bounded, Reached, Comes, Indexed, free_from}
-use Rattle.binding.proofs.Binds.{none-some}
+use Rattle.binding.specs.Sound.{alias_cmp, bindings_in, Bounded, Reached, Comes, Indexed, free_from}
 
 -- a vector with these bytes, wherever it would lie
 pub spelled : Vec ℕ Global → (bs : List ℕ) → length bs < 2 ^ 63 → Vec ℕ Global
-spelled v bs l = record { ptr = v.ptr; len = length bs; cap = length bs; heap = v.heap; items = bs; ok = (refl, omega arith); small = l }
+spelled v bs l = record { ptr = v.ptr; len = length bs; cap = length bs; alloc = v.alloc; items = bs; ok = (refl, omega arith); small = l }
 
 pub spelled-bytes : (v : Vec ℕ Global) (bs : List ℕ) (l : length bs < 2 ^ 63) → vec_items (spelled v bs l) ≡ bs
 unfolding spelled
 spelled-bytes v bs l = refl
 
 module _ (s : Binder) (x : Indexed s) (q : Bor (List ℕ)) (v : Vec ℕ Global) (e : vec_items v ≡ q.now) where
-  pub bound_as_name : (r : Bool) → r ≡ bag.contains by_bytes s.names q → r ≡ true → true ≡ is_some (find (bindings_in s) q.now)
-  bound_as_name r h t = sym (ap (λ c. c || bag.contains by_vectors s.aliases v) (sym h ∙ t)) ∙ x.taken q v e
+  pub bound_as_name : (r : Bool) → r ≡ bag.contains text_cmp s.names q → r ≡ true → true ≡ is_some (find (bindings_in s) q.now)
+  bound_as_name r h t = sym (ap (λ c. c || bag.contains alias_cmp s.aliases v) (sym h ∙ t)) ∙ x.taken q v e
 
-  pub bound_as_alias : (r c : Bool) → r ≡ bag.contains by_bytes s.names q → r ≡ false → c ≡ bag.contains by_vectors s.aliases v → c ≡ is_some (find (bindings_in s) q.now)
-  bound_as_alias r c h t d = d ∙ sym (ap (λ c. c || bag.contains by_vectors s.aliases v) (sym h ∙ t)) ∙ x.taken q v e
+  pub bound_as_alias : (r c : Bool) → r ≡ bag.contains text_cmp s.names q → r ≡ false → c ≡ bag.contains alias_cmp s.aliases v → c ≡ is_some (find (bindings_in s) q.now)
+  bound_as_alias r c h t d = d ∙ sym (ap (λ c. c || bag.contains alias_cmp s.aliases v) (sym h ∙ t)) ∙ x.taken q v e
 
 -- ---- the search for a free name
 

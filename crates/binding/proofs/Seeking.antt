@@ -1,10 +1,10 @@
 -- The search for a name finds the lowest proposal that fits, and fails only where proposals come to an end.
-use Rattle.std.proofs.Common.{◌≡◌, ℕ, zero, suc, ◌+◌, ◌<◌, ◌≤◌, Bool, true, false, cond, eqb, ◌⊎◌, List, [], ◌∷◌, map, length, Some, None, Option, sym, refl, ap, ◌∙◌, subst, inl, inr, arith, MatchOption}
+use Rattle.std.proofs.Common.{◌≡◌, ℕ, zero, suc, ◌+◌, ◌<◌, Bool, true, false, cond, eqb, ◌⊎◌, List, [], ◌∷◌, map, length, Some, None, Option, sym, refl, ap, ◌∙◌, subst, inl, inr, arith, MatchOption}
 use Rattle.std.specs.List.{AllByRecursion}
 use lib.ListN.{length-map}
 use Rattle.std.proofs.lemmas.Bool.{eqb-true, eqb-false, false≢true}
 use Rattle.model.specs.Tree.{Text}
-use Rattle.model.specs.Limits.{same_text_of, same_reference}
+use Rattle.model.specs.Limits.{same_text_of}
 use Rattle.binding.specs.Binding.{Target, Binding, Proposals, find, fits, allows, chosen, seek, taken}
 use Rattle.binding.specs.Laws.{Proposes, Passed, Lowest, Exhausted, TakesLowest, Member}
 use Rattle.references.proofs.Ties.{text-is}

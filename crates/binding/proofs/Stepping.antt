@@ -1,17 +1,17 @@
 -- How the code comes to the step that a target asks for.
-use Rattle.std.proofs.Common.{◌≡◌, ℕ, zero, suc, ◌<◌, Bool, true, false, cond, not, eqb, ltb, List, [], ◌∷◌, ◌++◌, length, is_some, Some, None, vec_items, Option, sym, refl, ap, ◌∙◌, subst, arith, MatchOption}
+use Rattle.std.proofs.Common.{◌≡◌, ℕ, zero, suc, Bool, true, false, cond, not, ltb, List, [], ◌∷◌, ◌++◌, length, is_some, Some, None, vec_items, Option, sym, refl, ap, ◌∙◌, subst, arith}
 use lib.ListN.{length-map}
 use Rattle.std.proofs.lemmas.Bool.{ltb-true, ltb-false, false≢true}
 use Rattle.model.specs.Tree.{Text}
-use Rattle.model.specs.Limits.{same_text_of, same_reference}
-use Rattle.naming.specs.Next.{next_name, following, proposal}
-use Rattle.references.proofs.Ties.{same_itself, same-is}
+use Rattle.model.specs.Limits.{same_reference}
+use Rattle.naming.specs.Next.{next_name, proposal}
+use Rattle.references.proofs.Ties.{same-is}
 use Rattle.binding.specs.declared.name.Name.{Name}
 use Rattle.binding.specs.declared.binder.Binder.{Binder}
-use Rattle.binding.specs.Binding.{Target, Binding, binding, Proposals, by_number, find, name_of, fits, allows, chosen, seek, taken, added, bind_to, step}
-use Rattle.binding.specs.Laws.{Proposes, Passed, Lowest, Exhausted, Lawful}
-use Rattle.binding.specs.Held.{text_of, binding_of}
-use Rattle.binding.specs.Sound.{pool_of, bindings_in, Shows, Sound, Enters, Bound, Grows, free_from}
+use Rattle.binding.specs.Binding.{Target, Binding, binding, by_number, find, name_of, fits, allows, chosen, seek, taken, added, bind_to, step}
+use Rattle.binding.specs.Laws.{Passed, Lowest, Exhausted, Lawful}
+use Rattle.binding.specs.Held.{binding_of}
+use Rattle.binding.specs.Sound.{pool_of, bindings_in, Shows, Sound, Enters, Bound, free_from}
 use Rattle.binding.proofs.Binds.{none-some, one-lowest, lawful-more, name_new}
 use Rattle.binding.proofs.Telling.{proposes-by_number, taken-lowest, taken_none}
 

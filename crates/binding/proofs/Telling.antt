@@ -1,18 +1,18 @@
 -- What the names of a file tell, step by step.
-use Rattle.std.proofs.Common.{◌≡◌, ℕ, zero, suc, ◌<◌, Bool, true, false, cond, ◌||◌, ◌⊎◌, List, [], ◌∷◌, ◌++◌, map, is_some, Some, None, Option, sym, refl, ap, ◌∙◌, subst, inl, inr, arith, MatchOption}
+use Rattle.std.proofs.Common.{◌≡◌, ℕ, Bool, true, false, cond, ◌||◌, ◌⊎◌, List, [], ◌∷◌, ◌++◌, is_some, Some, None, Option, sym, refl, ap, ◌∙◌, subst, inl, inr, arith, MatchOption}
 use Rattle.std.specs.List.{AllByRecursion}
 use Rattle.std.proofs.lemmas.Bool.{false≢true, or_right}
 use Rattle.model.specs.Tree.{Text}
-use Rattle.model.specs.Limits.{same_text_of, same_reference, occurs}
+use Rattle.model.specs.Limits.{same_text_of, occurs}
 use Rattle.text.specs.Names.{spelled}
 use Rattle.references.specs.References.{Reference}
 use Rattle.naming.proofs.Proposed.{proposals_differ_lem, proposals_shaped_lem}
-use Rattle.binding.specs.Binding.{Target, Binding, binding, Proposals, by_number, find, name_of, fits, allows, taken, added, bind_to, step, target_of, Taken, bound, exhausted, onward, take_all_of, once_after_of, once, declared_by}
-use Rattle.binding.specs.Laws.{Proposes, Passed, Lowest, Exhausted, TakesLowest, Lawful, Member, Exactly, Tells, RunsOut, NamesTell}
-use Rattle.references.proofs.Ties.{text_itself, text-is, same_itself, same-is}
+use Rattle.binding.specs.Binding.{Target, Binding, binding, Proposals, by_number, find, name_of, allows, taken, added, bind_to, step, target_of, bound, exhausted, onward, take_all_of, once_after_of, once, declared_by}
+use Rattle.binding.specs.Laws.{Proposes, Lowest, Exhausted, Lawful, Member, Tells, RunsOut, NamesTell}
+use Rattle.references.proofs.Ties.{text_itself, text-is, same-is}
 use Rattle.binding.proofs.Seeking.{takes_lowest}
 use Rattle.binding.proofs.Ors.{or_behind, or_grouped}
-use Rattle.binding.proofs.Binds.{none-some, declared-lawful, find_kept, name_kept, lawful-more, unnamed_where_free, name_new, found-more, find-declared, told}
+use Rattle.binding.proofs.Binds.{none-some, declared-lawful, find_kept, lawful-more, unnamed_where_free, name_new, found-more, find-declared, told}
 
 pub proposes-by_number : Proposes by_number
 proposes-by_number = record { first = λ t. refl; differ = λ t. proposals_differ_lem t.1; shaped = λ t. proposals_shaped_lem t.1 }

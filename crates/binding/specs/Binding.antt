@@ -1,6 +1,6 @@
 -- The names that a file binds, each to a target: a module and a root attribute of it. Bindings stand in the order in which
 -- they are made.
-use Rattle.std.specs.Prelude.{ℕ, zero, suc, Bool, true, false, cond, List, [], ◌∷◌, ◌++◌, map, length, Some, None, Option}
+use Rattle.std.specs.Prelude.{ℕ, zero, suc, Bool, true, cond, List, [], ◌∷◌, ◌++◌, map, length, Some, None, Option}
 use Rattle.std.specs.Option.{option_map}
 use Rattle.model.specs.Tree.{Text}
 use Rattle.model.specs.Limits.{same_text_of, same_reference, occurs}

@@ -1,5 +1,5 @@
 -- What the code holds of names and bindings, by their texts.
-use Rattle.std.specs.Prelude.{ℕ, ◌+◌, ◌≤◌, List, [], ◌∷◌, map, length, take, drop}
+use Rattle.std.specs.Prelude.{ℕ, List, map, take, drop}
 use Rattle.model.specs.Tree.{Text}
 use Rattle.binding.specs.declared.name.Name.{Name}
 use Rattle.binding.specs.declared.name.Name.TheVariants.{Model, Alias}

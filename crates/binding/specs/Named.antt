@@ -1,12 +1,12 @@
 -- What binding the names of a file answers.
-use Rattle.std.specs.Prelude.{◌≡◌, cond, List, map, Some, None, vec_items, Option}
+use Rattle.std.specs.Prelude.{◌≡◌, cond, List, None, vec_items, Option}
 use Rattle.std.specs.Option.{option_map}
 use Rattle.std.specs.BTreeMap as tree
 use Rattle.model.specs.Tree.{Text}
 use Rattle.model.specs.Limits.{same_reference, occurs}
 use Rattle.references.specs.declared.reference.Reference.{Reference as ReferenceOf}
 use Rattle.references.specs.References.{Reference, pair_of}
-use Rattle.references.specs.Kept.{by_texts}
+use Rattle.references.specs.Kept.{reference_cmp}
 use Rattle.binding.specs.declared.names.Names.{Names}
 use Rattle.binding.specs.declared.names.Bound.{Bound}
 use Rattle.binding.specs.declared.names.Bound.TheVariants.{Named, Exhausted}
@@ -19,7 +19,7 @@ bindings_held n = bindings_of (vec_items n.pool) (vec_items n.entries)
 
 -- the name that they hold for a reference
 abbrev pub name_held : Names → ReferenceOf → Option Text
-name_held n r = option_map (text_of (vec_items n.pool)) (tree.get by_texts n.renaming r)
+name_held n r = option_map (text_of (vec_items n.pool)) (tree.get reference_cmp n.renaming r)
 
 -- a reference's bound name, where it is one of these
 abbrev pub name_among : List Reference → List Binding → Reference → Option Text

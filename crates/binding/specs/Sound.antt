@@ -1,20 +1,19 @@
 -- What the binder keeps true of its indexes, and what a step of it leaves.
-use Rattle.std.specs.Prelude.{◌≡◌, ℕ, zero, suc, ◌+◌, ◌<◌, ◌≤◌, Bool, true, not, ◌||◌, List, [], ◌∷◌, ◌++◌, map, length, is_some, IfSome, Some, None, vec_items, Option, Vec}
+use Rattle.std.specs.Prelude.{◌≡◌, ℕ, zero, suc, ◌+◌, ◌<◌, ◌≤◌, true, not, ◌||◌, List, [], ◌∷◌, ◌++◌, length, is_some, IfSome, Some, None, vec_items, Option, Vec}
 use Rattle.std.specs.List.{AllByRecursion}
 use Rattle.std.specs.declared.cmp.Ordering.{Ordering}
-use Rattle.std.specs.Borrow.{MutBor}
+use Rattle.std.specs.Borrow.{Bor}
 use Rattle.std.specs.declared.alloc.Global.{Global}
-use Rattle.std.specs.Ordering.{MatchOrdering}
-use Rattle.std.specs.Cmp.{IsTotalOrder, nat_cmp_total}
-use Rattle.std.specs.OwnedKeys.{vectors}
-use Rattle.std.specs.Cmp.Lexicographic.{Lex}
+use Rattle.std.specs.Ordering.{nat_cmp}
+use Rattle.std.specs.Cmp.{IsTotalOrder, nat_cmp_total, on_total}
+use Rattle.std.specs.Cmp.Lexicographic.{slice_cmp, lists_total}
 use Rattle.std.specs.BTreeMap as tree
 use Rattle.std.specs.BTreeSet as bag
 use Rattle.model.specs.Tree.{Text}
 use Rattle.naming.specs.Next.{next_name, following, proposal}
 use Rattle.references.specs.declared.reference.Reference.{Reference as ReferenceOf}
 use Rattle.references.specs.References.{pair_of}
-use Rattle.references.specs.Kept.{by_bytes, by_texts}
+use Rattle.references.specs.Kept.{text_cmp, reference_cmp}
 use Rattle.binding.specs.declared.name.Name.{Name}
 use Rattle.binding.specs.declared.name.Name.TheVariants.{Model, Alias}
 use Rattle.binding.specs.declared.name.Last.{Last}
@@ -23,12 +22,12 @@ use Rattle.binding.specs.Binding.{Binding, binding, Target, by_number, find, nam
 use Rattle.binding.specs.Held.{text_of, bindings_of}
 use Rattle.binding.specs.Laws.{Lawful}
 
-abbrev pub Numbered : ℕ → ℕ → Ordering → Type 0
-Numbered x y r = MatchOrdering r (x < y) (x ≡ y) (y < x)
-
 -- aliases as keys go by their bytes, as the other names do
-abbrev pub by_vectors : IsTotalOrder (λ (x y : Vec ℕ Global). Lex Numbered (vec_items x) (vec_items y))
-by_vectors = vectors nat_cmp_total
+abbrev pub alias_cmp : Vec ℕ Global → Vec ℕ Global → Ordering
+alias_cmp x y = slice_cmp nat_cmp (vec_items x) (vec_items y)
+
+abbrev pub by_vectors : IsTotalOrder alias_cmp
+by_vectors = on_total (λ (x : Vec ℕ Global). vec_items x) (lists_total nat_cmp_total)
 
 abbrev pub pool_of : Binder → List ℕ
 pool_of s = vec_items s.pool
@@ -70,13 +69,13 @@ pub record Started (pool : List ℕ) (b : List Binding) (root : Text) (l : Last)
 
 pub record Indexed (s : Binder) : Type 0 where
   pub within : AllByRecursion (λ e. Within (length (pool_of s)) e.name) (vec_items s.entries)
-  pub targets : tree.IsOrdered by_texts s.targets
-  pub finds : (q : ReferenceOf) → Shows (pool_of s) (tree.get by_texts s.targets q) (name_of (bindings_in s) (pair_of q))
-  pub names : bag.IsOrdered by_bytes s.names
-  pub aliases : bag.IsOrdered by_vectors s.aliases
-  pub lasts : tree.IsOrdered by_bytes s.lasts
-  pub starts : (q : MutBor (List ℕ)) → IfSome (tree.get by_bytes s.lasts q) (Started (pool_of s) (bindings_in s) q.now)
-  pub taken : (q : MutBor (List ℕ)) (v : Vec ℕ Global) → vec_items v ≡ q.now → (bag.contains by_bytes s.names q || bag.contains by_vectors s.aliases v) ≡ is_some (find (bindings_in s) q.now)
+  pub targets : tree.IsOrdered reference_cmp s.targets
+  pub finds : (q : ReferenceOf) → Shows (pool_of s) (tree.get reference_cmp s.targets q) (name_of (bindings_in s) (pair_of q))
+  pub names : bag.IsOrdered text_cmp s.names
+  pub aliases : bag.IsOrdered alias_cmp s.aliases
+  pub lasts : tree.IsOrdered text_cmp s.lasts
+  pub starts : (q : Bor (List ℕ)) → IfSome (tree.get text_cmp s.lasts q) (Started (pool_of s) (bindings_in s) q.now)
+  pub taken : (q : Bor (List ℕ)) (v : Vec ℕ Global) → vec_items v ≡ q.now → (bag.contains text_cmp s.names q || bag.contains alias_cmp s.aliases v) ≡ is_some (find (bindings_in s) q.now)
 
 pub record Sound (s : Binder) : Type 0 where
   pub lawful : Lawful by_number (bindings_in s)

@@ -1,16 +1,12 @@
 -- The list of references: in order, with the members that it shall have, and no other list is so.
-use Rattle.std.proofs.Common.{◌≡◌, ℕ, ◌<◌, Bool, true, false, cond, ◌||◌, ◌⊎◌, List, [], ◌∷◌, map, Some, None, Option, Ordering, Less, Equal, Greater, sym, refl, ap, ◌∙◌, inl, inr}
+use Rattle.std.proofs.Common.{◌≡◌, Bool, true, false, ◌||◌, ◌⊎◌, List, [], ◌∷◌, map, Ordering, Less, Equal, Greater, sym, refl, ap, ◌∙◌, inl, inr}
 use mathlib.Core.List.Memᴰ
 use mathlib.Core.List.{Memᴰ}
-use lib.ListN.{length-map}
-use Rattle.std.specs.Ordering.{ordering_reverse, MatchOrdering, Then, eq_by_cmp, match_ordering}
-use Rattle.std.specs.Cmp.{IsTotalOrder, nat_cmp_total, pairs}
-use Rattle.std.specs.Cmp.Lexicographic as lexical
-use Rattle.std.specs.List.{AllByRecursion}
-use Rattle.std.specs.Map.{lookup}
+use Rattle.std.specs.Ordering.{ordering_reverse, is_eq, match_ordering}
+use Rattle.std.specs.Cmp.{IsTotalOrder, nat_cmp_total, on_total, then_total}
+use Rattle.std.specs.List.{AllByRecursion, list_any}
 use Rattle.std.specs.List.Sorted.{IsStrictlySortedBy}
-use Rattle.std.proofs.lemmas.List.Elements.{same_from_all_zip}
-use Rattle.std.proofs.lemmas.Map.Lookups.{lists-from-lookups}
+use Rattle.std.proofs.lemmas.Map.Lookups.{btree_set_from_contains}
 use Rattle.std.proofs.lemmas.Bool.{false≢true}
 use Rattle.model.specs.Limits.{occurs, same_reference}
 use Rattle.model.specs.Uses.{Use}
@@ -21,11 +17,8 @@ use Rattle.std.specs.Cmp.Lexicographic.{lists_total}
 
 -- ---- the order is total
 
-abbrev Numbered : ℕ → ℕ → Ordering → Type 0
-Numbered x y r = MatchOrdering r (x < y) (x ≡ y) (y < x)
-
-abbrev texts : IsTotalOrder (λ (x y : Reference). Then (lexical.Lex Numbered x.0 y.0) (lexical.Lex Numbered x.1 y.1))
-texts = pairs (lists_total nat_cmp_total) (lists_total nat_cmp_total)
+abbrev texts : IsTotalOrder order
+texts = then_total (on_total (λ (x : Reference). x.0) (lists_total nat_cmp_total)) (on_total (λ (x : Reference). x.1) (lists_total nat_cmp_total))
 
 flips : (x y : Reference) → order x y ≡ Greater → order y x ≡ Less
 flips x y e = texts.antisymm y x ∙ ap ordering_reverse e
@@ -91,24 +84,14 @@ occurs-sorted q (r ∷ rs) = occurs-placed q r (sorted rs) ∙ ap (λ b. same_re
 
 -- ---- one list
 
-abbrev marks : List Reference → List (Unit {0})
-marks rs = map (λ _. tt) rs
-
-mark_step : (tie same found : Bool) (o : Option (Unit {0})) → tie ≡ same → o ≡ cond found (Some tt) None → cond tie (Some tt) o ≡ cond (same || found) (Some tt) None
-mark_step true true found o e h = refl
-mark_step true false found o e h = absurd (false≢true (sym e))
-mark_step false true found o e h = absurd (false≢true e)
-mark_step false false found o e h = h
-
-marked : (rs : List Reference) (q : Reference) → lookup (eq_by_cmp texts) rs (marks rs) q ≡ cond (occurs same_reference q rs) (Some tt) None
-marked [] q = refl
-marked (r ∷ rs) q = mark_step (eq_by_cmp texts q r) (same_reference q r) (occurs same_reference q rs) (lookup (eq_by_cmp texts) rs (marks rs) q) (order_ties q r) (marked rs q)
+-- the keys that an order ties with a reference are those that are the same
+pub tied_occurs : (rs : List Reference) (q : Reference) → list_any (λ r. is_eq (order q r)) rs ≡ occurs same_reference q rs
+tied_occurs [] q = refl
+tied_occurs (r ∷ rs) q = λ i. order_ties q r i || tied_occurs rs q i
 
 pub one_list : (rs ss : List Reference) → IsStrictlySortedBy order rs → IsStrictlySortedBy order ss → ((q : Reference) → occurs same_reference q rs ≡ occurs same_reference q ss) → rs ≡ ss
 one_list rs ss h k same =
-    sym (same_from_all_zip (λ x y. order x y ≡ Equal) rs ss
-    (lists-from-lookups texts rs ss (marks rs) (marks ss) h k (length-map rs _) (length-map ss _) (λ q. marked rs q ∙ ap (λ b. cond b (Some tt) None) (same q) ∙ sym (marked ss q))).0
-    (λ x y e. sym (order_equal x y e)))
+    btree_set_from_contains texts (record { keys = rs }) (record { keys = ss }) h k (λ q. tied_occurs rs q ∙ same q ∙ sym (tied_occurs ss q)) order_equal
 
 -- ---- the law
 

@@ -1,11 +1,11 @@
 use Rattle.std.proofs.Common.{◌≤◌, [], map, length, get_or, ap, arith}
 use lib.ListN.{get_or-map}
 use lib.ListN.{length-map}
-use Rattle.std.proofs.lemmas.Map.Contents.{btree-map-empty}
-use Rattle.std.proofs.lemmas.Map.Invariant.{valid-from-btree-map}
+use Rattle.std.specs.Map.{lookup}
+use Rattle.std.specs.Ordering.{is_eq}
 use Rattle.references.specs.declared.reference.Reference.{Reference as ReferenceOf}
 use Rattle.references.specs.References.{pair_of}
-use Rattle.references.specs.Kept.{by_texts}
+use Rattle.references.specs.Kept.{reference_cmp}
 use Rattle.binding.proofs.Declaring.{declared-sound}
 use Rattle.binding.proofs.Folding.{folds_none, folds_more, folds_stop, folds_bound, folds_renames, binds_some, binds_none}
 use Rattle.binding.proofs.bind.bind_names.Goals as goal
@@ -15,8 +15,7 @@ blank = record { from = record { ref_ptr = (0, 0); now = [] }; name = record { r
 
 pub loop-r-init : goal.loop-r-init
 loop-r-init c =
-    let none = btree-map-empty by_texts c.new-renaming.result c.new-renaming.ensures.keys c.new-renaming.ensures.vals in
-    folds_none _ _ c.in_ok-binder.binder c.new-renaming.result (declared-sound _ _ c.in_ok-binder.binder c.in_ok-binder.ensures) none.0 none.1 c.in_ok-binder.ensures.bindings
+    folds_none _ _ c.in_ok-binder.binder c.new-renaming.result (declared-sound _ _ c.in_ok-binder.binder c.in_ok-binder.ensures) c.new-renaming.ensures.ordered (λ q. ap (lookup (λ k. is_eq (reference_cmp q k))) c.new-renaming.ensures.empty) c.in_ok-binder.ensures.bindings
 
 pub bind-requires : goal.bind-requires
 bind-requires c = c.loop-r.invariant.sound
@@ -27,7 +26,7 @@ loop-r-preserved c =
     folds_more _ (map pair_of c.args.references.now) c.loop-r.r-index (pair_of blank) c.loop-r.binder c.bind.new.self c.loop-r.renaming c.insert.new.self r c.in-Some.name
     (omega (arith, length-map c.args.references.now pair_of, c.loop-r-test.true)) (get_or-map pair_of c.args.references.now c.loop-r.r-index blank) c.loop-r.invariant
     (binds_some c.loop-r.binder c.bind.new.self _ _ c.in_ok-bound.bound c.in-Some.name (ap (λ w. (r.from.now, w)) c.split_root.ensures.root) c.in-Some.is c.in_ok-bound.ensures)
-    c.in_ok-insert.ensures.inserted.3
+    c.in_ok-insert.ensures.updates c.insert.ensures.ordered
 
 pub returns-in_default : goal.returns-in_default
 returns-in_default c =
@@ -45,4 +44,4 @@ returns c =
     }
 
 pub invariant_of-result : goal.invariant_of-result
-invariant_of-result c = (valid-from-btree-map by_texts c.loop-r.renaming c.loop-r.invariant.ordered, tt)
+invariant_of-result c = record { sorted = c.loop-r.invariant.ordered }

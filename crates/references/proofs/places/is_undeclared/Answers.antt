@@ -1,6 +1,4 @@
-use Rattle.std.proofs.Common.{refl}
 use Rattle.model.specs.Steps.{use_of}
-use Rattle.references.specs.Kept.{by_bytes}
 use Rattle.references.proofs.Kept.{lacks-none, lacks-root}
 use Rattle.references.proofs.places.is_undeclared.Goals as goal
 
@@ -10,4 +8,4 @@ returns-then-not-same c = λ ns h. lacks-none c.args.own.now ns (use_of c.args.u
 pub returns : goal.returns
 returns c = λ ns h.
     lacks-root c.args.own.now ns (use_of c.args.u.now) c.args.names.now c.split_root.result.0 c.contains.result
-    c.if-not-same.ensures c.split_root.ensures.root (c.contains.ensures.finds c.split_root.result.0 refl by_bytes h.lawful) h
+    c.if-not-same.ensures c.split_root.ensures.root c.contains.ensures h

@@ -1,8 +1,7 @@
-use Rattle.std.proofs.Common.{◌≡◌, List, length, is_some, Some, None, vec_items, sym, ap, ◌∙◌, subst}
-use Rattle.model.specs.Tree.{Text}
+use Rattle.std.proofs.Common.{length, vec_items, ap, ◌∙◌, subst}
 use Rattle.naming.specs.Next.{next_name}
 use Rattle.references.specs.References.{pair_of}
-use Rattle.binding.specs.Binding.{find, name_of}
+use Rattle.binding.specs.Binding.{name_of}
 use Rattle.binding.specs.Sound.{pool_of, bindings_in, free_from, FreeAlias}
 use Rattle.binding.proofs.Stepping.{bound-known, bound_entered, none_shown, taken-root, taken_alias, step-none, as_many}
 use Rattle.binding.proofs.binder.Binder.bind.Goals as goal

@@ -1,8 +1,7 @@
-use Rattle.std.proofs.Common.{◌≡◌, ℕ, List, ◌++◌, vec_items, sym, ap, ◌∙◌, subst, arith}
-use Rattle.references.specs.Kept.{by_bytes}
+use Rattle.std.proofs.Common.{◌≡◌, ◌++◌, vec_items, ap, ◌∙◌}
 use Rattle.references.specs.References.{pair_of}
 use Rattle.binding.specs.declared.name.Name.TheVariants.{Alias}
-use Rattle.binding.specs.Sound.{by_vectors, bindings_in}
+use Rattle.binding.specs.Sound.{bindings_in}
 use Rattle.binding.proofs.Entering.{enters, alias_put, alias_grows, alias_is, alias_lies, last_put}
 use Rattle.binding.proofs.binder.Binder.enter_alias.Goals as goal
 
@@ -10,8 +9,8 @@ pub returns : goal.returns
 returns c =
     let s = c.args.self.now in
     let w = vec_items c.args.alias in
-    let put = c.in_ok-insert.ensures.inserted.2 in
-    let last = c.in_ok-insert-2.ensures.inserted.3 in
+    let put = c.in_ok-insert.ensures.updates in
+    let last = c.in_ok-insert-2.ensures.updates in
     let grown : vec_items c.extend_from_slice.new.self ≡ vec_items s.pool ++ w =
     c.in_ok-extend_from_slice.ensures.items ∙ ap (λ l. vec_items s.pool ++ l) c.as_slice.ensures.value in
     let start = c.len-start.ensures ∙ s.pool.ok.0 in
@@ -21,6 +20,6 @@ returns c =
     enters s record { pool = c.extend_from_slice.new.self; entries = c.push.new.self; targets = c.insert-3.new.self; names = s.names; aliases = c.insert.new.self; lasts = c.insert-2.new.self }
     c.args.target (Alias record { start = c.len-start.result; len = c.len-len.result }) w
     (alias_grows (vec_items s.pool) w _ grown) is lies c.requires.indexed c.requires.unnamed
-    c.in_ok-push.ensures.items c.in_ok-insert-3.ensures.inserted.3 c.requires.indexed.names (put by_vectors c.requires.indexed.aliases).0 (last by_bytes c.requires.indexed.lasts).0
-    (last_put s.pool.items (vec_items c.extend_from_slice.new.self) (bindings_in s) w (pair_of c.args.target) s.lasts c.insert-2.new.self c.args.target.name record { part = record { start = c.len-start.result; len = c.len-len.result }; number = c.args.number } last c.requires.indexed.lasts is lies c.requires.comes c.requires.indexed.starts)
-    (alias_put s.names s.aliases c.insert.new.self c.args.alias put c.requires.indexed.aliases)
+    c.in_ok-push.ensures.items c.in_ok-insert-3.ensures.updates c.insert-3.ensures.ordered c.requires.indexed.names c.insert.ensures.ordered c.insert-2.ensures.ordered
+    (last_put s.pool.items (vec_items c.extend_from_slice.new.self) (bindings_in s) w (pair_of c.args.target) s.lasts c.insert-2.new.self c.args.target.name record { part = record { start = c.len-start.result; len = c.len-len.result }; number = c.args.number } last is lies c.requires.comes c.requires.indexed.starts)
+    (alias_put s.names s.aliases c.insert.new.self c.args.alias put)

@@ -1,4 +1,4 @@
-use Rattle.std.proofs.Common.{◌≡◌, ◌+◌, true, false, length, is_some, Some, None, vec_items, sym, ap, ◌∙◌, subst, arith}
+use Rattle.std.proofs.Common.{◌≡◌, ◌+◌, is_some, Some, None, vec_items, ap, ◌∙◌, subst}
 use Rattle.naming.specs.Next.{next_name}
 use Rattle.binding.specs.Binding.{find}
 use Rattle.binding.specs.Sound.{bindings_in, free_from, Comes}
