@@ -2,8 +2,7 @@
 use Rattle.std.proofs.Common.{◌≡◌, ℕ, ◌+◌, ◌<◌, ◌≤◌, Bool, true, false, cond, not, ◌&&◌, ◌||◌, List, [], ◌∷◌, ◌++◌, map, length, get_or, drop, IfOk, vec_items, codes, filter, Result, Vec, sym, refl, ap, ◌∙◌, subst, append_assoc, arith}
 use lib.ListN.{length-map}
 use Rattle.std.specs.BTreeSet.{BTreeSet}
-use Rattle.std.specs.BTreeSet.{IsOrdered, keys, unit-values}
-use Rattle.std.proofs.lemmas.Map.Contents.{btree-set-empty}
+use Rattle.std.specs.BTreeSet.{IsEmpty, IsOrdered, keys}
 use Rattle.std.proofs.lemmas.List.{append-nil, drop_all, drop_more, get_or-map}
 use Rattle.std.proofs.lemmas.Result.{IfOk-weaker}
 use Rattle.std.proofs.lemmas.Bool.{false≢true, cond-true, cond-false}
@@ -15,7 +14,7 @@ use Rattle.binding.specs.Binding.{Binding, binding}
 use Rattle.binding.specs.declared.name.Entry.{Entry}
 use Rattle.binding.specs.Held.{text_of, binding_of, bindings_of}
 use Rattle.imports.specs.Lines.{imported, Import, import', import_of, Line, line, line_of, before, grouped, lines_of, import_text, others_text, start_text, line_text, sorted_texts, import_lines_of}
-use Rattle.imports.specs.Held.{by_bytes, texts_in, begun, Puts}
+use Rattle.imports.specs.Held.{line_cmp, texts_in, begun, Puts}
 use Rattle.imports.proofs.Texts.{ascends-sorted, occurs-sorted, one_list, another}
 use Rattle.imports.proofs.Growing.{texts_ascend}
 
@@ -118,13 +117,13 @@ module _ (own base : Text) where
 
   -- the lines so far, before the binding with this number: those that are put, and those to come
   pub record Sofar {Y : Type 0} (b : List Binding) (from x : Text) (i : ℕ) (s : BTreeSet (Vec ℕ Y)) : Type 0 where
-    pub ordered : IsOrdered by_bytes s
+    pub ordered : IsOrdered line_cmp s
     pub holds : (q : Text) → (occurs same_text_of q (texts_in s) || occurs same_text_of q (going from x (drop i b))) ≡ occurs same_text_of q (map (line_text base) (lines_of own b))
 
   module _ {Y : Type 0} (b : List Binding) where
-    pub sofar_none : (x : Text) (s : BTreeSet (Vec ℕ Y)) → keys s ≡ [] → unit-values s ≡ [] → x ≡ [] → Sofar b own x 0 s
-    sofar_none x s ks us is = record {
-      ordered = (btree-set-empty by_bytes s ks us).0;
+    pub sofar_none : (x : Text) (s : BTreeSet (Vec ℕ Y)) → IsEmpty s → IsOrdered line_cmp s → x ≡ [] → Sofar b own x 0 s
+    sofar_none x s ks ordered is = record {
+      ordered = ordered;
       holds = λ q. ap (λ ks'. occurs same_text_of q (map vec_items ks') || occurs same_text_of q (going own x b)) ks
           ∙ ap (λ y. occurs same_text_of q (going own y b)) is ∙ ap (occurs same_text_of q) (going_first b);
     }

@@ -1,14 +1,11 @@
 -- Texts in the order of their bytes, each once.
-use Rattle.std.proofs.Common.{◌≡◌, ℕ, suc, ◌<◌, Bool, true, false, cond, ◌||◌, ◌⊎◌, List, [], ◌∷◌, map, length, Some, None, All as Each, Option, Ordering, Less, Equal, Greater, sym, refl, ap, ◌∙◌, inl, inr}
-use lib.ListN.{length-map}
-use Rattle.std.specs.Ordering.{ordering_reverse, is_eq, MatchOrdering, nat_cmp, eq_by_cmp, match_ordering}
+use Rattle.std.proofs.Common.{◌≡◌, suc, Bool, true, false, ◌||◌, ◌⊎◌, List, [], ◌∷◌, length, Ordering, Less, Equal, Greater, sym, refl, ap, ◌∙◌, inl, inr}
+use Rattle.std.specs.Ordering.{ordering_reverse, is_eq, nat_cmp, match_ordering}
 use Rattle.std.specs.Cmp.{IsTotalOrder, nat_cmp_total}
-use Rattle.std.specs.Cmp.Lexicographic.{Lex, slice_cmp, lexical}
-use Rattle.std.specs.List.{AllByRecursion}
-use Rattle.std.specs.Map.{lookup}
+use Rattle.std.specs.Cmp.Lexicographic.{slice_cmp, lists_total}
+use Rattle.std.specs.List.{AllByRecursion, list_any}
 use Rattle.std.specs.List.Sorted.{IsStrictlySortedBy}
-use Rattle.std.proofs.lemmas.List.Elements.{same_from_all_zip}
-use Rattle.std.proofs.lemmas.Map.Lookups.{lists-from-lookups}
+use Rattle.std.proofs.lemmas.Map.Lookups.{btree_set_from_contains}
 use Rattle.std.proofs.lemmas.Bool.{false≢true, or_cases, or_left, or_right, or_from, or_parts}
 use Rattle.model.specs.Tree.{Text}
 use Rattle.model.specs.Limits.{occurs, same_text_of}
@@ -18,8 +15,8 @@ use Rattle.binding.specs.Laws.{Member, Exactly}
 use Rattle.imports.specs.Lines.{placed, sorted_texts}
 use Rattle.imports.specs.Laws.{Apart}
 
-abbrev texts : IsTotalOrder (Lex (λ (a b : ℕ) (r : Ordering). MatchOrdering r (a < b) (a ≡ b) (b < a)))
-texts = lexical nat_cmp_total
+abbrev texts : IsTotalOrder (slice_cmp nat_cmp)
+texts = lists_total nat_cmp_total
 
 pub flips : (x y : Text) → slice_cmp nat_cmp x y ≡ Greater → slice_cmp nat_cmp y x ≡ Less
 flips x y e = texts.antisymm y x ∙ ap ordering_reverse e
@@ -83,7 +80,7 @@ occurs-step q t s ss ps Equal e h =
 occurs-step q t s ss ps Greater e h =
     ap (λ b. same_text_of q s || b) h ∙ or_swap (same_text_of q s) (same_text_of q t) (occurs same_text_of q ss)
 
-occurs-placed : (q t : Text) (ss : List Text) → occurs same_text_of q (placed t ss) ≡ (same_text_of q t || occurs same_text_of q ss)
+pub occurs-placed : (q t : Text) (ss : List Text) → occurs same_text_of q (placed t ss) ≡ (same_text_of q t || occurs same_text_of q ss)
 occurs-placed q t [] = refl
 occurs-placed q t (s ∷ ss) = occurs-step q t s ss (placed t ss) (slice_cmp nat_cmp t s) refl (occurs-placed q t ss)
 
@@ -93,24 +90,14 @@ occurs-sorted q (t ∷ ts) = occurs-placed q t (sorted_texts ts) ∙ ap (λ b. s
 
 -- ---- one list
 
-abbrev marks : List Text → List (Unit {0})
-marks ts = map (λ _. tt) ts
-
-mark_step : (tie same found : Bool) (o : Option (Unit {0})) → tie ≡ same → o ≡ cond found (Some tt) None → cond tie (Some tt) o ≡ cond (same || found) (Some tt) None
-mark_step true true found o e h = refl
-mark_step true false found o e h = absurd (false≢true (sym e))
-mark_step false true found o e h = absurd (false≢true e)
-mark_step false false found o e h = h
-
-marked : (ts : List Text) (q : Text) → lookup (eq_by_cmp texts) ts (marks ts) q ≡ cond (occurs same_text_of q ts) (Some tt) None
-marked [] q = refl
-marked (t ∷ ts) q = mark_step (eq_by_cmp texts q t) (same_text_of q t) (occurs same_text_of q ts) (lookup (eq_by_cmp texts) ts (marks ts) q) (text_ties q t) (marked ts q)
+-- the texts that the order ties with a text are those that are the same
+tied_occurs : (ts : List Text) (q : Text) → list_any (λ t. is_eq (slice_cmp nat_cmp q t)) ts ≡ occurs same_text_of q ts
+tied_occurs [] q = refl
+tied_occurs (t ∷ ts) q = λ i. text_ties q t i || tied_occurs ts q i
 
 pub one_list : (ss ts : List Text) → IsStrictlySortedBy (slice_cmp nat_cmp) ss → IsStrictlySortedBy (slice_cmp nat_cmp) ts → ((q : Text) → occurs same_text_of q ss ≡ occurs same_text_of q ts) → ss ≡ ts
 one_list ss ts h k same =
-    sym (same_from_all_zip (λ x y. slice_cmp nat_cmp x y ≡ Equal) ss ts
-    (lists-from-lookups texts ss ts (marks ss) (marks ts) h k (length-map ss _) (length-map ts _) (λ q. marked ss q ∙ ap (λ b. cond b (Some tt) None) (same q) ∙ sym (marked ts q))).0
-    (λ x y e. sym (equal_is x y e)))
+    btree_set_from_contains texts (record { keys = ss }) (record { keys = ts }) h k (λ q. tied_occurs ss q ∙ same q ∙ sym (tied_occurs ts q)) equal_is
 
 -- ---- members
 
@@ -154,7 +141,7 @@ another t s n = go (same_text_of t s) refl
     go true e = absurd (n (text-is t s e))
     go false e = refl
 
-none-occurs : (t : Text) (ss : List Text) → Each (λ s. t ≡ s → ⊥) ss → occurs same_text_of t ss ≡ false
+none-occurs : (t : Text) (ss : List Text) → AllByRecursion (λ s. t ≡ s → ⊥) ss → occurs same_text_of t ss ≡ false
 none-occurs t [] h = refl
 none-occurs t (s ∷ ss) h = or_from (same_text_of t s) (occurs same_text_of t ss) (another t s h.0) (none-occurs t ss h.1)
 

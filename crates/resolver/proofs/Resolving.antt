@@ -1,14 +1,13 @@
 -- How the code comes to the names of a file.
-use Rattle.std.proofs.Common.{◌≡◌, ℕ, List, map, Some, None, Option, unwrap_or, sym, refl, ap, ◌∙◌, subst}
+use Rattle.std.proofs.Common.{◌≡◌, ℕ, List, map, Some, None, Option, unwrap_or, sym, ap, ◌∙◌}
 use Rattle.model.specs.Tree.{Text}
 use Rattle.model.specs.Uses.{Use, Declared}
 use Rattle.model.specs.Rules.{least}
-use Rattle.references.specs.declared.reference.Reference.{Reference as ReferenceOf}
 use Rattle.references.specs.References.{Reference, pair_of, references, use_places, undeclared, name_of}
 use Rattle.binding.specs.declared.names.Names.{Names}
-use Rattle.binding.specs.Binding.{by_number, Taken, exhausted, take_all_of, declared_by}
+use Rattle.binding.specs.Binding.{by_number, exhausted, take_all_of, declared_by}
 use Rattle.binding.specs.Named.{Holds, name_among, bindings_held}
-use Rattle.resolver.specs.Resolved.{Resolved, resolved, refused, names_from, unless, resolution}
+use Rattle.resolver.specs.Resolved.{refused, names_from, unless, resolution}
 use Rattle.resolver.specs.Resolves.{Named}
 
 module _ (own : Text) (ds es : List Declared) (us vs : List Use) (de : es ≡ ds) (ue : vs ≡ us) (p : Option ℕ) (found : p ≡ least (undeclared own es vs)) where

@@ -10,7 +10,7 @@ use Rattle.imports.proofs.lines.import_lines.Goals.{then-is_imported+in_ok-appen
 pub loop-e-init : goal.loop-e-init
 loop-e-init c =
     sofar_none c.args.own.now c.args.base.now (bindings_of c.args.pool.now c.args.entries.now) (vec_items c.new-line.result) c.new-lines.result
-    c.new-lines.ensures.keys c.new-lines.ensures.units c.new-line.ensures.items
+    c.new-lines.ensures.empty c.new-lines.ensures.ordered c.new-line.ensures.items
 
 pub loop-e-preserved : goal.loop-e-preserved
 loop-e-preserved c =
