@@ -1,8 +1,8 @@
 -- Worked cases: expressions with their texts.
-use Rattle.std.specs.Prelude.{ℕ, ◌≡◌, Bool, true, false, List, [], ◌∷◌, ◌++◌, map, codes}
-use Rattle.model.specs.Tree.{Text, Expr, Exprs, py_none, int, float, str, ellipsis, constant, name, attr, binop, tuple, list, subscript, end, item}
+use Rattle.std.specs.Prelude.{◌≡◌, List, [], ◌∷◌, ◌++◌, map, codes}
+use Rattle.model.specs.Tree.{Text, Expr, int, float, str, ellipsis, constant, name, attr, binop, tuple, list, subscript, end, item}
 use Rattle.expressions.specs.Shown.{Calls, expr_text}
-use Rattle.expressions.specs.Leads.{cuts, decorator_text}
+use Rattle.expressions.specs.Leads.{decorator_text}
 
 -- everything is called by its attribute
 abbrev pub plain : Calls

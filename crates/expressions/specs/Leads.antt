@@ -1,5 +1,5 @@
 -- The reference with which the text of an expression begins, and the class path that a method's decorator loses.
-use Rattle.std.specs.Prelude.{ℕ, ◌+◌, Bool, true, false, cond, ◌&&◌, List, [], ◌∷◌, ◌++◌, length, drop}
+use Rattle.std.specs.Prelude.{◌+◌, Bool, true, false, ◌&&◌, List, [], ◌∷◌, ◌++◌, length, drop}
 use Rattle.model.specs.Tree.{Text, Expr, constant, name, attr, binop, tuple, list, subscript}
 use Rattle.model.specs.Uses.{Use, builtins, expr_uses, if_name}
 use Rattle.model.specs.Limits.{same_text_of, occurs}

@@ -1,5 +1,5 @@
 -- The text of an expression, by bytes.
-use Rattle.std.specs.Prelude.{ℕ, ◌+◌, ◌/◌, ◌%◌, Bool, true, false, cond, ◌||◌, List, [], ◌∷◌, ◌++◌, codes, eqb, ltb}
+use Rattle.std.specs.Prelude.{ℕ, ◌+◌, ◌/◌, ◌%◌, Bool, true, false, cond, [], ◌∷◌, ◌++◌, codes, eqb, ltb}
 use Rattle.model.specs.Tree.{Text, Constant, Expr, Exprs, py_none, py_false, py_true, int, float, str, ellipsis, constant, name, attr, binop, tuple, list, subscript, end, item}
 use Rattle.model.specs.Uses.{builtins, if_name}
 use Rattle.references.specs.References.{Reference}

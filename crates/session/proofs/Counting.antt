@@ -1,7 +1,6 @@
 -- The list of files in short is as long as the list of files.
-use Rattle.std.proofs.Common.{◌≡◌, ℕ, Bool, false, eqb, List, [], ◌∷◌, map, length, None, Ok, Result, sym, refl, ap, ◌∙◌, arith}
+use Rattle.std.proofs.Common.{◌≡◌, ℕ, List, [], ◌∷◌, length, None, Ok, Result, sym, refl, ap, ◌∙◌}
 use lib.ListN.{length-map}
-use Rattle.std.proofs.lemmas.Bool.{eqb-false}
 use Rattle.model.specs.declared.files.File.{File}
 use Rattle.model.specs.Tree.{Module}
 use Rattle.model.specs.Read.{Out, read, fault, model}

@@ -2,7 +2,7 @@
 use Rattle.std.proofs.Common.{◌≡◌, ℕ, List, IsErrAnd, Some, None, Option, Result, refl, arith}
 use Rattle.std.proofs.lemmas.Result.{err_from_is_err_and}
 use Rattle.model.specs.Laws.{Bytes}
-use Rattle.model.specs.Verdict.{accepted, refused, verdict}
+use Rattle.model.specs.Verdict.{accepted, verdict}
 use Rattle.verdict.specs.declared.refusal.Refusal.{Refusal}
 use Rattle.verdict.specs.Answers.{Tells, Says}
 use Rattle.rules.proofs.Loading.{loads_exactly_lem}

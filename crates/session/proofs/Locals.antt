@@ -1,5 +1,5 @@
 -- What `local` answers is what the tree of the model says.
-use Rattle.std.proofs.Common.{◌≡◌, ℕ, ◌<◌, ◌≤◌, Bool, true, false, cond, eqb, List, [], ◌∷◌, ◌++◌, map, length, get_or, IsErrAnd, Some, None, Option, Result, sym, refl, ap, ◌∙◌, subst, arith}
+use Rattle.std.proofs.Common.{◌≡◌, ℕ, ◌<◌, ◌≤◌, Bool, true, false, cond, eqb, List, [], ◌∷◌, ◌++◌, length, get_or, IsErrAnd, Some, None, Option, Result, sym, refl, ap, ◌∙◌, subst, arith}
 use lib.ListN.{length-map}
 use Rattle.std.specs.Option.{option_map}
 use Rattle.std.specs.List.{slice_get}
@@ -11,7 +11,6 @@ use Rattle.model.specs.Tree.{Text, Module, pymodule}
 use Rattle.model.specs.Read.{Out, read, fault, bind, place, one_module, ended, deepest_allowed, model}
 use Rattle.model.specs.Laws.{Bytes}
 use Rattle.model.specs.Files.{files, entries}
-use Rattle.model.specs.Uses.{Use, Declared}
 use Rattle.model.specs.Limits.{same_reference, occurs}
 use Rattle.verdict.specs.Judged.{files_of}
 use Rattle.walk.specs.Total.{own_in as declarations_in}
@@ -28,12 +27,11 @@ use Rattle.binding.specs.Binding.{Binding, name_of, target_of}
 use Rattle.binding.specs.Named.{name_held, name_among, bindings_held}
 use Rattle.resolver.specs.declared.fault.Fault.{Fault as Unresolved}
 use Rattle.resolver.specs.Answers as resolver
-use Rattle.resolver.specs.Resolved.{Resolved, resolved, refused as unresolved, resolution, Local, named, refused_by, collected, local_from, local_by}
+use Rattle.resolver.specs.Resolved.{Local, collected, local_from, local_by}
 use Rattle.resolver.specs.Resolves.{Named, resolution_in}
 use Rattle.session.specs.declared.fault.Fault.{Fault}
 use Rattle.session.specs.declared.fault.Fault.TheVariants.{Resolver}
-use Rattle.session.specs.Answers.{told}
-use Rattle.session.specs.Local.{uses_of, declared_of, local_in_of, local_at, Answer, refused, in_room, in_file, in_model, local_of, Tells, Answers, joined}
+use Rattle.session.specs.Local.{uses_of, declared_of, local_in_of, local_at, refused, in_room, in_file, in_model, local_of, Tells, Answers, joined}
 use Rattle.session.proofs.Counting.{as_many}
 
 -- ---- a model is read to its end

@@ -1,12 +1,12 @@
 -- A name in two parts, written to the start of a buffer.
-use Rattle.std.proofs.Common.{◌≡◌, ℕ, ◌+◌, ◌-◌, ◌<◌, ◌≤◌, Bool, true, false, cond, ltb, List, [], ◌∷◌, ◌++◌, length, take, drop, sym, refl, ap, ◌∙◌, subst, append_assoc, arith, length-append, lt-ltb}
+use Rattle.std.proofs.Common.{◌≡◌, ℕ, ◌+◌, ◌-◌, ◌<◌, ◌≤◌, true, false, cond, ltb, List, ◌++◌, length, take, drop, sym, refl, ap, ◌∙◌, subst, append_assoc, arith, length-append, lt-ltb}
 use native.Mathlib.Nat.{sub-zero}
 use borrow.Rule.Slice.PartMut.{put_mid, post_of, Post-is}
 use Rattle.std.proofs.lemmas.List.{take_at}
 use Rattle.std.proofs.lemmas.Slice.{drop-append-drop}
 use Rattle.std.proofs.lemmas.Bool.{le-ltb}
 use Rattle.resolver.specs.Resolved.{named}
-use Rattle.session.specs.Local.{Answer, written, refused, in_room, Writes}
+use Rattle.session.specs.Local.{written, refused, in_room, Writes}
 
 both : (b r buf : List ℕ) → put_mid (length b) (length b + length r - length b) (b ++ post_of 0 (length b - 0) buf) r ≡ (b ++ r) ++ drop (length (b ++ r)) buf
 both b r buf =

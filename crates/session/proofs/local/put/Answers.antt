@@ -1,4 +1,4 @@
-use Rattle.std.proofs.Common.{length, refl, arith}
+use Rattle.std.proofs.Common.{length, refl}
 use Rattle.session.proofs.Putting.{put_both, no_room}
 use Rattle.session.proofs.local.put.Goals as goal
 

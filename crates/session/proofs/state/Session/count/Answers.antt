@@ -1,4 +1,4 @@
-use Rattle.std.proofs.Common.{vec_items, vec_len, sym, ◌∙◌, arith}
+use Rattle.std.proofs.Common.{vec_items, vec_len, sym, ◌∙◌}
 use Rattle.std.proofs.lemmas.Bool.{eqb-false}
 use Rattle.session.proofs.Counting.{counts}
 use Rattle.session.proofs.state.Session.count.Goals as goal

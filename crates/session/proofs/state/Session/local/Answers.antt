@@ -1,4 +1,4 @@
-use Rattle.std.proofs.Common.{◌≡◌, length, vec_items, vec_len, sym, refl, ap, ◌∙◌, subst, arith}
+use Rattle.std.proofs.Common.{length, vec_items, vec_len, sym, refl, ap, ◌∙◌, subst, arith}
 use Rattle.model.specs.Read.{model}
 use Rattle.verdict.specs.Judged.{files_of}
 use Rattle.std.proofs.lemmas.Bool.{eqb-true, eqb-false}
