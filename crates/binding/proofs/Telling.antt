@@ -132,7 +132,7 @@ module _ (propose : Proposals) (p : Proposes propose) where
     after : List Reference
     between : rs ≡ before ++ r ∷ after
     names : List Binding
-    taken-before : take_all_of propose b before ≡ bound names
+    taken_before : take_all_of propose b before ≡ bound names
     none : Exhausted propose names (target_of r)
 
   stops : (b : List Binding) (rs : List Reference) (r : Reference) → take_all_of propose b rs ≡ exhausted r → Stops b rs r
@@ -148,7 +148,7 @@ module _ (propose : Proposals) (p : Proposes propose) where
             after = rs;
             between = refl;
             names = b;
-            taken-before = refl;
+            taken_before = refl;
             none = step-none b (target_of q) is (taken_none b (target_of q));
           }
       go (Some d) is more h =
@@ -158,7 +158,7 @@ module _ (propose : Proposals) (p : Proposes propose) where
             after = s.after;
             between = ap (λ l. q ∷ l) s.between;
             names = s.names;
-            taken-before = ap (λ o. onward o q (λ c. take_all_of propose c s.before)) is ∙ s.taken-before;
+            taken_before = ap (λ o. onward o q (λ c. take_all_of propose c s.before)) is ∙ s.taken_before;
             none = s.none;
           }
 
@@ -265,7 +265,7 @@ module _ (propose : Proposals) (p : Proposes propose) (own : Text) (ds : List Te
   runs_out : (r : Reference) → take_all_of propose (declared_by own ds) rs ≡ exhausted r → RunsOut propose own ds rs r
   runs_out r e =
       let s = stops propose p (declared_by own ds) rs r e in
-      record { before = s.before; after = s.after; between = s.between; names = s.names; taken-before = s.taken-before; none = s.none }
+      record { before = s.before; after = s.after; between = s.between; names = s.names; taken_before = s.taken_before; none = s.none }
 
 pub names_tell_lem : NamesTell
 names_tell_lem propose p own ds rs = (tells propose p own ds rs, runs_out propose p own ds rs)

@@ -73,7 +73,7 @@ pub record RunsOut (propose : Proposals) (own : Text) (ds : List Text) (rs : Lis
   pub after : List Reference
   pub between : rs ≡ before ++ r ∷ after
   pub names : List Binding
-  pub taken-before : take_all_of propose (declared_by own ds) before ≡ bound names
+  pub taken_before : take_all_of propose (declared_by own ds) before ≡ bound names
   pub none : Exhausted propose names (target_of r)
 
 -- whatever way names are proposed in, all of this holds of them

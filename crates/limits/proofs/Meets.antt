@@ -85,7 +85,7 @@ module _ (rule : Rule) (place : ℕ) (k : Key) (w : Walk) (xs : List (Keyed Whol
       → o ≡ cond shown (Some (sooner place w.least)) w.least
       → o ≡ least (shown_after (test_of same rule) [] (xs ++ entry_of place k ∷ []))
   least_with o shown shows noted =
-      noted ∙ (λ i. cond (shows i) (Some (sooner place (m.least-is i))) (m.least-is i))
+      noted ∙ (λ i. cond (shows i) (Some (sooner place (m.least_is i))) (m.least_is i))
       ∙ sym (ap least (shown_push (test_of same rule) [] xs (entry_of place k)) ∙ least_more (shown_after (test_of same rule) [] xs) place (test_of same rule (key_of k) (seen_in [] xs)))
 
   kept_more : (v : Walk) (new shown : Bool)
@@ -108,7 +108,7 @@ module _ (rule : Rule) (place : ℕ) (k : Key) (w : Walk) (xs : List (Keyed Whol
           holds = λ q. put.0 q ∙ (λ i. cond (key_tied k q i) true (kept.holds q i)) ∙ cond_or (same (key_of q) (key_of k)) (occurs same (key_of q) seen) ∙ ap (occurs same (key_of q)) (sym pushed);
           count = count ∙ ap (distinct same) (sym pushed);
         };
-        least-is = least_with v.least shown (shows ∙ tested rule (key_of k) seen new (btree_set_len v.keys) old count) noted;
+        least_is = least_with v.least shown (shows ∙ tested rule (key_of k) seen new (btree_set_len v.keys) old count) noted;
       }
 
 -- a key that the set takes in
@@ -138,5 +138,5 @@ meets_full rule place k w p told noted xs m =
     record {
       lawful = m.lawful;
       known = inr record { told = sym told; came = ap (λ ks. full_by rule (distinct same ks)) (seen_push [] xs (entry_of place k)) ∙ full_more rule (key_of k) seen came };
-      least-is = least_with rule place k w xs m (Some p) true (sym (full_shows rule (key_of k) seen came)) (ap Some noted);
+      least_is = least_with rule place k w xs m (Some p) true (sym (full_shows rule (key_of k) seen came)) (ap Some noted);
     }

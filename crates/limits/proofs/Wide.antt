@@ -76,7 +76,7 @@ module _ {A : Type 0} (f : A → Keyed Whole) (rule : Rule) (xs : List A) (i : �
 
   -- its end
   met_all : (w : Walk) → length xs ≤ i → Met rule (map f (take i xs)) w → w.least ≡ least (shown_after (test_of same rule) [] (map f xs))
-  met_all w h m = m.least-is ∙ ap (λ ys. least (shown_after (test_of same rule) [] (map f ys))) (take_all i xs h)
+  met_all w h m = m.least_is ∙ ap (λ ys. least (shown_after (test_of same rule) [] (map f ys))) (take_all i xs h)
 
 pub siblings-all : (xs : List Sibling) (i : ℕ) (w : Walk) → length xs ≤ i → Met Repeat (map held_entry (take i xs)) w → w.least ≡ least (repeated_siblings (map held_of xs))
 siblings-all xs i w h m =

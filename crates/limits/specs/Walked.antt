@@ -72,4 +72,4 @@ pub record Full (rule : Rule) (xs : List (Keyed Whole)) (w : Walk) : Type 0 wher
 pub record Met (rule : Rule) (xs : List (Keyed Whole)) (w : Walk) : Type 0 where
   pub lawful : IsOrdered by_parts w.keys
   pub known : Kept xs w ⊎ Full rule xs w
-  pub least-is : w.least ≡ least (shown_after (test_of same rule) [] xs)
+  pub least_is : w.least ≡ least (shown_after (test_of same rule) [] xs)

@@ -75,7 +75,7 @@ module _ (own : Text) (ds : List Declared) (us : List Use) where
   from-nameless : (r : Reference) → Nameless own ds us r → all ≡ exhausted r
   from-nameless r x =
       ap (take_all_of by_number (declared_by own (map name_of ds))) x.between
-      ∙ taken_on (declared_by own (map name_of ds)) x.before x.names (r ∷ x.after) x.taken-before
+      ∙ taken_on (declared_by own (map name_of ds)) x.before x.names (r ∷ x.after) x.taken_before
       ∙ ap (λ o. onward o r (λ c. take_all_of by_number c x.after)) (no_step x.names (target_of r) x.none)
 
   -- it is used, so that there is a least place of it

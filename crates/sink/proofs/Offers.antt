@@ -7,7 +7,7 @@ use Rattle.sink.proofs.Lines.{lines_more, whole-more, count-more, length-line}
 
 -- a sink that is left as it was
 pub refused-line : (before : List (List ℕ)) (runs : List (List ℕ) → Type 0) (line : List ℕ) → (runs (line ∷ []) → ⊥) → Refusing before runs line before runs
-refused-line before runs line n = record { would-not = n; same = refl; rest = record { to = λ rs p. p; back = λ rs p. p } }
+refused-line before runs line n = record { would_not = n; same = refl; rest = record { to = λ rs p. p; back = λ rs p. p } }
 
 -- runs that fit
 

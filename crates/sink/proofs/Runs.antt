@@ -22,7 +22,7 @@ module _ {S : Type 0} (taken : S → List (List ℕ)) (takes : S → List (List 
 
   -- a run, and then a line that is refused
   pub refused-after : (s t u : S) (ls : List (List ℕ)) (line : List ℕ) → Took taken takes s ls t → Refusing (taken t) (takes t) line (taken u) (takes u) → takes s (ls ++ (line ∷ [])) → ⊥
-  refused-after s t u ls line a b p = b.would-not (a.rest.back (line ∷ []) p)
+  refused-after s t u ls line a b p = b.would_not (a.rest.back (line ∷ []) p)
 
   pub took_before : (s t u : S) (ls : List (List ℕ)) (line : List ℕ) → Took taken takes s ls t → Refusing (taken t) (takes t) line (taken u) (takes u) → Took taken takes s ls u
   took_before s t u ls line a b =

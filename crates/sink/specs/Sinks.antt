@@ -26,7 +26,7 @@ pub record Taking (before : List (List ℕ)) (runs : List (List ℕ) → Type 0)
 
 -- a line is refused: its run would not be taken, and both values remain
 pub record Refusing (before : List (List ℕ)) (runs : List (List ℕ) → Type 0) (line : List ℕ) (after : List (List ℕ)) (runs' : List (List ℕ) → Type 0) : Type 0 where
-  pub would-not : runs (line ∷ []) → ⊥
+  pub would_not : runs (line ∷ []) → ⊥
   pub same : after ≡ before
   pub rest : Same runs' runs
 

@@ -56,14 +56,14 @@ natural-Decides (b ∷ bs) =
 
     alone : eqb b 48 ≡ true → (b ∷ bs ≡ 48 ∷ []) ⊎ Positive (b ∷ bs) → eqb (length bs) 0 ≡ true
     alone t (inl e) = eq-eqb (length bs) 0 (omega (arith, ap length e))
-    alone t (inr p) = let f : p.first ≡ b = cc p.is in absurd (omega (arith, p.not-zero, eqb-true b 48 t))
+    alone t (inr p) = let f : p.first ≡ b = cc p.is in absurd (omega (arith, p.not_zero, eqb-true b 48 t))
 
     positive : eqb b 48 ≡ false → AllByRecursion Digit (b ∷ bs) → Positive (b ∷ bs)
-    positive t h = let ne : b ≡ 48 → ⊥ = eqb-false b 48 t in record { first = b; more = bs; is = refl; not-zero = (omega (arith, h.0), h.0.1); all = h.1 }
+    positive t h = let ne : b ≡ 48 → ⊥ = eqb-false b 48 t in record { first = b; more = bs; is = refl; not_zero = (omega (arith, h.0), h.0.1); all = h.1 }
 
     each : eqb b 48 ≡ false → (b ∷ bs ≡ 48 ∷ []) ⊎ Positive (b ∷ bs) → AllByRecursion Digit (b ∷ bs)
     each t (inl e) = let f : b ≡ 48 = cc e in absurd (eqb-false b 48 t f)
-    each t (inr p) = subst (AllByRecursion Digit) (sym p.is) ((omega (arith, p.not-zero), p.not-zero.1), p.all)
+    each t (inr p) = subst (AllByRecursion Digit) (sym p.is) ((omega (arith, p.not_zero), p.not_zero.1), p.all)
 
 pub int-Decides : (s : List ℕ) → Decides (int s) (Int s)
 unfolding int
@@ -74,7 +74,7 @@ int-Decides s = (reads, writes)
 
     unsigned-here : (p : Int s) → (p.magnitude ≡ 48 ∷ []) ⊎ Positive p.magnitude → unsigned s ≡ p.magnitude
     unsigned-here p (inl e) = unsigned_is s p.sign p.magnitude 48 [] e (λ z. omega arith) p.signed p.is
-    unsigned-here p (inr q) = unsigned_is s p.sign p.magnitude q.first q.more q.is (λ z. omega (arith, q.not-zero)) p.signed p.is
+    unsigned-here p (inr q) = unsigned_is s p.sign p.magnitude q.first q.more q.is (λ z. omega (arith, q.not_zero)) p.signed p.is
 
     writes : Int s → natural (unsigned s) ≡ true
     writes p = ap natural (unsigned-here p p.counts) ∙ (natural-Decides p.magnitude).1 p.counts

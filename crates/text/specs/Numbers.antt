@@ -39,7 +39,7 @@ pub record Positive (s : List ℕ) : Type 0 where
   pub first : ℕ
   pub more : List ℕ
   pub is : s ≡ first ∷ more
-  pub not-zero : IsInRange 49 57 first
+  pub not_zero : IsInRange 49 57 first
   pub all : AllByRecursion Digit more
 
 pub record Int (s : List ℕ) : Type 0 where
