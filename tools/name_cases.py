@@ -1,6 +1,6 @@
 """Cases for the call `local`, and a resolver of names that answers each of them once more.
 
-cases.py adds the PARTS behind its own cases. As there, answers are known by
+cases_with_local.py adds the PARTS behind those of cases.py. As there, answers are known by
 construction: a local name is written out beside the model that it comes from,
 and a refusal's place is a mark in the model. The resolver at the end of this
 file works on the tree that the checker reads from the bytes, and knows nothing
@@ -19,9 +19,8 @@ import re
 from functools import lru_cache
 from pathlib import Path
 
-from checker import Reader, Refused, collected, files
-from pieces import (at, arg, attr, Attr, cls, expression_positions, flat, func, held, HOLDERS, Int, Lst,
-                    model, module, module_chain, Name, NONE, Or, short_names, Str, Sub, Tup)
+from cases import (at, arg, attr, Attr, cls, collected, expression_positions, files, flat, func, held, HOLDERS, Int, Lst,
+                   model, module, module_chain, Name, NONE, Or, Reader, Refused, short_names, Str, Sub, Tup)
 
 TOP = Path(__file__).resolve().parent.parent
 

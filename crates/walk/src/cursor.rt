@@ -9,7 +9,7 @@ ghost use Rattle.walk.specs.Puts.{skip as skip_at, skip_parts as skip_parts_at, 
 use model::Expression;
 
 // Whether the bit of this value stands in a map.
-pub fn stands(map: u16, bit: u16) -> bool
+pub(crate) fn stands(map: u16, bit: u16) -> bool
     requires { 0 < bit }
     ensures { result ≡ bit_of map bit }
 {

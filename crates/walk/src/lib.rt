@@ -8,6 +8,6 @@ mod reached;
 mod walker;
 
 pub use collector::{Collected, collect};
-pub use cursor::{Cursor, stands};
+pub use cursor::Cursor;
 pub use headers::header;
 pub use reached::{files_reached, readings_agree};
