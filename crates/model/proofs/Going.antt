@@ -1,20 +1,25 @@
 -- How a pass that gathers as it reads goes on: the exit of a `?`, one step into an expression or a class, and a loop over items.
-use Rattle.std.proofs.Common.{◌≡◌, ℕ, zero, suc, ◌+◌, ◌-◌, ◌<◌, Bool, true, List, IsErrAnd, Err, Option, Result, sym, refl, ap, ◌∙◌, subst, arith}
+use Rattle.std.proofs.Common.{◌≡◌, ℕ, zero, suc, ◌+◌, ◌-◌, ◌<◌, ◌≤◌, Bool, true, List, IsErrAnd, Ok, Err, Option, Result, sym, refl, ap, ◌∙◌, arith}
 use Rattle.std.proofs.lemmas.Result.{err_from_is_err_and}
+use Rattle.model.specs.declared.cursor.Cursor.{Cursor}
+use Rattle.model.specs.declared.reader.Reader.{Reader}
+use Rattle.model.specs.declared.files.Listing.{Listing}
 use Rattle.model.specs.declared.fault.Layout.{Layout}
 use Rattle.model.specs.declared.fault.Fault.{Fault}
 use Rattle.model.specs.declared.fault.Fault.TheVariants.{Broken, Memory}
 use Rattle.model.specs.declared.findings.Findings.{Findings}
-use Rattle.model.specs.Read.{Out, read, fault, bind, place, count, Head, head}
-use Rattle.model.specs.Steps.{Goes, Gathers}
+use Rattle.model.specs.Read.{Out, fault, bind, place, count, Head, head}
+use Rattle.model.specs.Steps.{Passed, Went, Goes, Gathers, gathered}
 use Rattle.model.specs.Audit.{note_head, audit_parts, audit_expr, laps, audit_list, audit_class_over, audit_class, Gathered, audit_module_over, audit_module}
 
-pub goes_by : {T S : Type 0} (rest : List ℕ) (f : S) (r : Result T Layout) (o q : Out S) → q ≡ o → Goes rest f r o → Goes rest f r q
-goes_by rest f r o q e g = subst (λ (x : Out _). Goes rest f r x) (sym e) g
+-- a pass that begins as another does goes on as it
+pub goes_by : {T : Type 0} (before mid after : Reader) (r : Result T Layout) (one two : List ℕ → Findings → Out Findings) → one before.at.rest.now before.found ≡ two mid.at.rest.now mid.found → mid.at.end ≡ before.at.end → Goes mid after r two → Goes before after r one
+goes_by before mid after (Ok v) one two e f g = record { is = e ∙ g.is; end = g.end ∙ f }
+goes_by before mid after (Err x) one two e f g = e ∙ g
 
 -- the exit of a `?`
-pub exits : {T S : Type 0} (rest : List ℕ) (f : S) (r : Result T Layout) (e : Layout) (o : Out S) → IsErrAnd r (λ y. y ≡ e) → o ≡ fault e.place → Goes rest f r o
-exits rest f r e o b h = let p = err_from_is_err_and r b in rw (p.1, p.2) h
+pub exits : {T : Type 0} (before after : Reader) (r : Result T Layout) (e : Layout) (one : List ℕ → Findings → Out Findings) → IsErrAnd r (λ y. y ≡ e) → one before.at.rest.now before.found ≡ fault e.place → Goes before after r one
+exits before after r e one b h = let p = err_from_is_err_and r b in rw (p.1, p.2) h
 
 pub expr_at-zero : (n d p : ℕ) (bs : List ℕ) (f : Findings) → d ≡ 0 → p ≡ place n bs → audit_expr n d bs f ≡ fault p
 unfolding audit_expr
@@ -34,9 +39,9 @@ pub expr-fault : (n d p : ℕ) (bs : List ℕ) (f : Findings) → (d ≡ 0 → �
 expr-fault n d p bs f h e =
     expr-opened n d bs f h ∙ ap (λ (o : Out Head). bind o (on_head n (d - 1) bs f)) e
 
-pub expr-inside : (n d p : ℕ) (bs : List ℕ) (f : Findings) (h : Head) (s t : List ℕ) (g : Findings) → (d ≡ 0 → ⊥) → p ≡ place n bs → head n bs ≡ read h s → g ≡ note_head p h f → t ≡ s → audit_expr n d bs f ≡ audit_parts n (audit_expr n (d - 1)) p h t g
-expr-inside n d p bs f h s t g z pe he ge te =
-    expr-opened n d bs f z ∙ ap (λ (o : Out Head). bind o (on_head n (d - 1) bs f)) he ∙ rw (ge, pe, te) refl
+pub expr-inside : {T : Type 0} (before mid after : Reader) (at : Cursor) (d p : ℕ) (h : Head) (r : Result T Layout) → (d ≡ 0 → ⊥) → p ≡ place before.at.end before.at.rest.now → Passed (head before.at.end) h before.at at → mid.found ≡ note_head p h before.found → mid.at ≡ at → Goes mid after r (audit_parts mid.at.end (audit_expr mid.at.end (d - 1)) p h) → Goes before after r (audit_expr before.at.end d)
+expr-inside before mid after at d p h r z pe he fe me g =
+    goes_by before mid after r _ _ (expr-opened before.at.end d before.at.rest.now before.found z ∙ ap (λ (o : Out Head). bind o (on_head before.at.end (d - 1) before.at.rest.now before.found)) he.is ∙ rw (fe, me, he.end, pe) refl) (rw (me, he.end) refl) g
 
 pub class_at-zero : (n d p : ℕ) (bs : List ℕ) (f : Findings) → d ≡ 0 → p ≡ place n bs → audit_class n d bs f ≡ fault p
 unfolding audit_class
@@ -48,26 +53,40 @@ unfolding audit_class
 class-opened n zero bs f h = absurd (h refl)
 class-opened n (suc d) bs f h = let e : suc d - 1 ≡ d = omega arith in rw e refl
 
+-- how far a loop over n items is: what is left to read gives what all of it gives, in the same model
+pub record Sofar {S : Type 0} (one : List ℕ → S → Out S) (n i : ℕ) (before after : Cursor) (f g : S) : Type 0 where
+  pub is : laps one n before.rest.now f ≡ laps one (n - i) after.rest.now g
+  pub end : after.end ≡ before.end
+
 -- a loop over k items
 pub laps-more : {S : Type 0} (one : List ℕ → S → Out S) (n i : ℕ) (bs : List ℕ) (f : S) → i < n → laps one (n - i) bs f ≡ bind (one bs f) (λ g r. laps one (n - (i + 1)) r g)
 laps-more one n i bs f h =
     let e : n - i ≡ suc (n - (i + 1)) = omega arith in
     rw e refl
 
-pub laps-read : {S : Type 0} (one : List ℕ → S → Out S) (n i : ℕ) (bs r : List ℕ) (f g : S) (all : Out S) → i < n → all ≡ laps one (n - i) bs f → one bs f ≡ read g r → all ≡ laps one (n - (i + 1)) r g
-laps-read one n i bs r f g all h a e = a ∙ laps-more one n i bs f h ∙ ap (λ (o : Out _). bind o (λ g r. laps one (n - (i + 1)) r g)) e
+pub sofar_more : {S : Type 0} (one : ℕ → List ℕ → S → Out S) (n i : ℕ) (before mid after : Cursor) (f g h : S) → i < n → Sofar (one before.end) n i before mid f g → Went (one mid.end) mid after g h → Sofar (one before.end) n (i + 1) before after f h
+sofar_more one n i before mid after f g h l s w = record {
+  is = s.is ∙ laps-more (one before.end) n i mid.rest.now g l ∙ ap (λ (o : Out _). bind o (λ g r. laps (one before.end) (n - (i + 1)) r g)) (ap (λ (k : ℕ). one k mid.rest.now g) (sym s.end) ∙ w.is);
+  end = w.end ∙ s.end;
+}
 
-pub laps-fault : {S : Type 0} (one : List ℕ → S → Out S) (n i p : ℕ) (bs : List ℕ) (f : S) (all : Out S) → i < n → all ≡ laps one (n - i) bs f → one bs f ≡ fault p → all ≡ fault p
-laps-fault one n i p bs f all h a e = a ∙ laps-more one n i bs f h ∙ ap (λ (o : Out _). bind o (λ g r. laps one (n - (i + 1)) r g)) e
+pub sofar_fault : {S : Type 0} (one : ℕ → List ℕ → S → Out S) (n i p : ℕ) (before mid : Cursor) (f g : S) → i < n → Sofar (one before.end) n i before mid f g → one mid.end mid.rest.now g ≡ fault p → laps (one before.end) n before.rest.now f ≡ fault p
+sofar_fault one n i p before mid f g l s w =
+    s.is ∙ laps-more (one before.end) n i mid.rest.now g l ∙ ap (λ (o : Out _). bind o (λ g r. laps (one before.end) (n - (i + 1)) r g)) (ap (λ (k : ℕ). one k mid.rest.now g) (sym s.end) ∙ w)
+
+pub sofar_done : {S : Type 0} (one : List ℕ → S → Out S) (n i : ℕ) (before after : Cursor) (f g : S) → n ≤ i → Sofar one n i before after f g → Went (laps one n) before after f g
+sofar_done one n i before after f g l s = let e : n - i ≡ 0 = omega arith in record { is = s.is ∙ rw e refl; end = s.end }
 
 -- a list field that stands
-pub listed_by : {S : Type 0} (n : ℕ) (one : List ℕ → S → Out S) (stands : Bool) (bs r : List ℕ) (f : S) (k : ℕ) (o : Out S) → stands ≡ true → count n bs ≡ read k r → laps one k r f ≡ o → audit_list n one stands bs f ≡ o
-listed_by n one stands bs r f k o s e l =
-    ap (λ (b : Bool). audit_list n one b bs f) s ∙ ap (λ (q : Out ℕ). bind q (λ k r. laps one k r f)) e ∙ l
+pub listed_by : {S : Type 0} (one : ℕ → List ℕ → S → Out S) (stands : Bool) (before at : Cursor) (f : S) (k : ℕ) → stands ≡ true → Passed (count before.end) k before at → audit_list before.end (one before.end) stands before.rest.now f ≡ laps (one at.end) k at.rest.now f
+listed_by one stands before at f k s p =
+    ap (λ (b : Bool). audit_list before.end (one before.end) b before.rest.now f) s ∙ ap (λ (q : Out ℕ). bind q (λ k r. laps (one before.end) k r f)) p.is ∙ ap (λ (n : ℕ). laps (one n) k at.rest.now f) (sym p.end)
 
 -- the same at the level of modules, where memory may lack
-pub gathers_by : {T S : Type 0} (rest : List ℕ) (f : S) (r : Result T Fault) (o q : Out S) → q ≡ o → Gathers rest f r o → Gathers rest f r q
-gathers_by rest f r o q e g = subst (λ (x : Out _). Gathers rest f r x) (sym e) g
+pub gathers_by : {T : Type 0} (before mid after : Reader) (list between listed : Listing) (r : Result T Fault) (one two : List ℕ → Gathered → Out Gathered) → one before.at.rest.now (gathered before.found list) ≡ two mid.at.rest.now (gathered mid.found between) → mid.at.end ≡ before.at.end → Gathers mid after between listed r two → Gathers before after list listed r one
+gathers_by before mid after list between listed (Ok v) one two e f g = record { is = e ∙ g.is; end = g.end ∙ f }
+gathers_by before mid after list between listed (Err (Broken x)) one two e f g = e ∙ g
+gathers_by before mid after list between listed (Err Memory) one two e f g = tt
 
 pub module_at-zero : (n d p : ℕ) (h : Option ℕ) (bs : List ℕ) (g : Gathered) → d ≡ 0 → p ≡ place n bs → audit_module n d h bs g ≡ fault p
 unfolding audit_module
@@ -78,12 +97,3 @@ pub module-opened : (n d : ℕ) (h : Option ℕ) (bs : List ℕ) (g : Gathered) 
 unfolding audit_module
 module-opened n zero h bs g z = absurd (z refl)
 module-opened n (suc d) h bs g z = let e : suc d - 1 ≡ d = omega arith in rw e refl
-
--- the exit of a `?` on one of k items, of a list field that stands
-pub item_exits : {T S : Type 0} (rest : List ℕ) (f : S) (r : Result T Fault) (e : Fault) (rest' : List ℕ) (f' : S) (one : List ℕ → S → Out S) (n i : ℕ) (bs : List ℕ) (g : S) (all o : Out S) → IsErrAnd r (λ y. y ≡ e) → i < n → all ≡ laps one (n - i) bs g → o ≡ all → Gathers {T = Unit {0}} rest' f' (Err e) (one bs g) → Gathers rest f r o
-item_exits rest f r (Broken p) rest' f' one n i bs g all o b h a x y =
-    let q = err_from_is_err_and r b in
-    rw (q.1, q.2) (x ∙ laps-fault one n i p.place bs g all h a y)
-item_exits rest f r Memory rest' f' one n i bs g all o b h a x y =
-    let q = err_from_is_err_and r b in
-    rw (q.1, q.2) tt

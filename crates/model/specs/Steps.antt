@@ -1,6 +1,8 @@
 -- How an answer of the code and the bytes then left tell an outcome of reading.
 use Rattle.std.specs.Prelude.{◌≡◌, ℕ, List, [], map, Ok, Err, vec_items, Result}
-use Rattle.std.specs.Borrow.{Bor}
+use Rattle.std.specs.Borrow.{Bor, MutBor}
+use Rattle.model.specs.declared.cursor.Cursor.{Cursor}
+use Rattle.model.specs.declared.reader.Reader.{Reader}
 use Rattle.model.specs.declared.fault.Layout.{Layout}
 use Rattle.model.specs.declared.fault.Fault.{Fault}
 use Rattle.model.specs.declared.fault.Fault.TheVariants.{Broken, Memory}
@@ -21,15 +23,20 @@ use Rattle.model.specs.Read.{Out, read, fault, Head, constant_head, name_head, a
 abbrev pub as_is : ℕ → ℕ
 as_is k = k
 
--- the code's value, seen through f, was read, and these bytes are left; or the fault is at its place
-abbrev pub Steps : {T A : Type 0} → (T → A) → List ℕ → Result T Layout → Out A → Type 0
-Steps f rest (Ok v) o = o ≡ read (f v) rest
-Steps f rest (Err e) o = o ≡ fault e.place
+-- what `one` read of the bytes before, seen as v, and the cursor went on behind it, in the same model
+pub record Passed {A : Type 0} (one : List ℕ → Out A) (v : A) (before after : Cursor) : Type 0 where
+  pub is : one before.rest.now ≡ read v after.rest.now
+  pub end : after.end ≡ before.end
+
+-- the code's value, seen through f, was read, and the cursor went on; or the fault is at its place
+abbrev pub Steps : {T A : Type 0} → (T → A) → Cursor → Cursor → Result T Layout → (List ℕ → Out A) → Type 0
+Steps f before after (Ok v) one = Passed one (f v) before after
+Steps f before after (Err e) one = one before.rest.now ≡ fault e.place
 
 -- the same of a text that is a part of the model
-abbrev pub Takes : List ℕ → Result (Bor (List ℕ)) Layout → Out Text → Type 0
-Takes rest (Ok s) o = o ≡ read s.now rest
-Takes rest (Err e) o = o ≡ fault e.place
+abbrev pub Takes : Cursor → Cursor → Result (Bor (List ℕ)) Layout → (List ℕ → Out Text) → Type 0
+Takes before after (Ok s) one = Passed one s.now before after
+Takes before after (Err e) one = one before.rest.now ≡ fault e.place
 
 abbrev pub head_of : Expression → Head
 head_of None = constant_head py_none
@@ -46,16 +53,18 @@ head_of (Tuple k) = tuple_head k
 head_of (ListOf k) = list_head k
 head_of Subscript = subscript_head
 
--- a pass that gathers as it reads went on to f, and these bytes are left; or the fault is at its place
-abbrev pub Goes : {T S : Type 0} → List ℕ → S → Result T Layout → Out S → Type 0
-Goes rest f (Ok v) o = o ≡ read f rest
-Goes rest f (Err e) o = o ≡ fault e.place
+-- a pass that notes as it reads went on, in the same model; or the fault is at its place
+pub record Went {S : Type 0} (one : List ℕ → S → Out S) (before after : Cursor) (f g : S) : Type 0 where
+  pub is : one before.rest.now f ≡ read g after.rest.now
+  pub end : after.end ≡ before.end
 
--- the same of a pass that may lack memory, of which it then says nothing
-abbrev pub Gathers : {T S : Type 0} → List ℕ → S → Result T Fault → Out S → Type 0
-Gathers rest f (Ok v) o = o ≡ read f rest
-Gathers rest f (Err (Broken e)) o = o ≡ fault e.place
-Gathers rest f (Err Memory) o = Unit {0}
+abbrev pub Goes : {T : Type 0} → Reader → Reader → Result T Layout → (List ℕ → Findings → Out Findings) → Type 0
+Goes before after (Ok v) one = Went one before.at after.at before.found after.found
+Goes before after (Err e) one = one before.at.rest.now before.found ≡ fault e.place
+
+-- each call reads as `one` says, in a model of whatever length
+abbrev pub CallsGo : (MutBor Reader → Result (Unit {0}) Layout → MutBor Reader → Type 0) → (ℕ → List ℕ → Findings → Out Findings) → Type 0
+CallsGo post one = (x y : MutBor Reader) (r : Result (Unit {0}) Layout) → post x r y → Goes x.now y.now r (one x.now.at.end)
 
 abbrev pub held_of : Sibling → Held
 held_of x = held x.place x.holder x.name.now
@@ -63,6 +72,12 @@ held_of x = held x.place x.holder x.name.now
 -- what the code has gathered
 abbrev pub gathered : Findings → Listing → Gathered
 gathered found list = record { found = found; files = vec_items list.files; siblings = map held_of (vec_items list.siblings) }
+
+-- the same of a pass that may lack memory, of which it then says nothing
+abbrev pub Gathers : {T : Type 0} → Reader → Reader → Listing → Listing → Result T Fault → (List ℕ → Gathered → Out Gathered) → Type 0
+Gathers before after list listed (Ok v) one = Went one before.at after.at (gathered before.found list) (gathered after.found listed)
+Gathers before after list listed (Err (Broken e)) one = one before.at.rest.now (gathered before.found list) ≡ fault e.place
+Gathers before after list listed (Err Memory) one = Unit {0}
 
 -- what a reference and a declared name of the code stand for
 abbrev pub use_of : UseOf → Use

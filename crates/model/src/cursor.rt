@@ -1,6 +1,6 @@
-// A cursor over the packed bytes, which steps through numbers, texts and tags. It keeps only what is left; `end` is the
-// model's length throughout, from which a place is told, and at which a fault shows where the bytes run out.
-ghost use Rattle.std.specs.Prelude.{◌≡◌, ◌<◌};
+// A cursor over the packed bytes, which steps through numbers, texts and tags. It keeps what is left and the model's length,
+// from which a place is told, and at which a fault shows where the bytes run out.
+ghost use Rattle.std.specs.Prelude.{◌≡◌, ◌<◌, IsTrue, length, [], ◌↔◌};
 ghost use Rattle.model.specs.Read.{place as place_of, byte as byte_at, number as number_at, text as text_at, fields as fields_at, star_fields as star_fields_at, bit as bit_of, count as count_at, head as head_at};
 ghost use Rattle.model.specs.Steps.{Steps, Takes, as_is, head_of};
 
@@ -17,23 +17,42 @@ pub(crate) fn stands(map: u16, bit: u16) -> bool
 }
 
 #[derive(Clone, Copy)]
-pub struct Cursor<'a> {
-    pub rest: &'a [u8],
+pub(crate) struct Cursor<'a> {
+    rest: &'a [u8],
+    end: usize,
 }
 
 impl<'a> Cursor<'a> {
-    // Where the next byte stands in the model.
-    pub(crate) fn place(&self, end: usize) -> usize
-        ensures { result ≡ place_of end self.now.rest.now }
+    // The cursor at the start of a model.
+    pub(crate) fn new(model: &'a [u8]) -> Self
+        ensures rest { result.rest.now ≡ model.now }
+        ensures end { result.end ≡ length model.now }
     {
-        end.saturating_sub(self.rest.len())
+        Cursor {
+            rest: model,
+            end: model.len(),
+        }
     }
 
-    pub(crate) fn byte(&mut self, end: usize) -> Result<u8, Layout>
-        ensures { Steps as_is self.new.rest.now result (byte_at end self.old.rest.now) }
+    // Whether no byte is left.
+    pub(crate) fn is_at_end(&self) -> bool
+        ensures { IsTrue result ↔ (self.now.rest.now ≡ []) }
+    {
+        self.rest.is_empty()
+    }
+
+    // Where the next byte stands in the model.
+    pub(crate) fn place(&self) -> usize
+        ensures { result ≡ place_of self.now.end self.now.rest.now }
+    {
+        self.end.saturating_sub(self.rest.len())
+    }
+
+    pub(crate) fn byte(&mut self) -> Result<u8, Layout>
+        ensures { Steps as_is self.old self.new result (byte_at self.old.end) }
     {
         if self.rest.len() == 0 {
-            return Err(Layout { place: end });
+            return Err(Layout { place: self.end });
         }
         let first = self.rest[0];
         self.rest = &self.rest[1..];
@@ -41,22 +60,22 @@ impl<'a> Cursor<'a> {
     }
 
     // A number of 16 bits, the high byte first.
-    pub(crate) fn number(&mut self, end: usize) -> Result<u16, Layout>
-        ensures { Steps as_is self.new.rest.now result (number_at end self.old.rest.now) }
+    pub(crate) fn number(&mut self) -> Result<u16, Layout>
+        ensures { Steps as_is self.old self.new result (number_at self.old.end) }
     {
-        let high = self.byte(end)?;
-        let low = self.byte(end)?;
+        let high = self.byte()?;
+        let low = self.byte()?;
         Ok(u16::from(high) * 256 + u16::from(low))
     }
 
     // A text: its length, and as many bytes.
-    pub(crate) fn text(&mut self, end: usize) -> Result<&'a [u8], Layout>
-        ensures { Takes self.new.rest.now result (text_at end self.old.rest.now) }
+    pub(crate) fn text(&mut self) -> Result<&'a [u8], Layout>
+        ensures { Takes self.old self.new result (text_at self.old.end) }
     {
-        let count = self.number(end)?;
+        let count = self.number()?;
         let length = usize::from(count);
         if length > self.rest.len() {
-            return Err(Layout { place: end });
+            return Err(Layout { place: self.end });
         }
         let taken = &self.rest[0..length];
         self.rest = &self.rest[length..];
@@ -64,11 +83,11 @@ impl<'a> Cursor<'a> {
     }
 
     // A record's map, in which only the bits below `limit` have a name.
-    pub(crate) fn fields(&mut self, end: usize, limit: u16) -> Result<u16, Layout>
-        ensures { Steps as_is self.new.rest.now result (fields_at end limit self.old.rest.now) }
+    pub(crate) fn fields(&mut self, limit: u16) -> Result<u16, Layout>
+        ensures { Steps as_is self.old self.new result (fields_at self.old.end limit) }
     {
-        let place = self.place(end);
-        let map = self.number(end)?;
+        let place = self.place();
+        let map = self.number()?;
         if map < limit {
             Ok(map)
         } else {
@@ -77,11 +96,11 @@ impl<'a> Cursor<'a> {
     }
 
     // The map of a vararg or kwarg, in which bit 0 has no name.
-    pub(crate) fn star_fields(&mut self, end: usize) -> Result<u16, Layout>
-        ensures { Steps as_is self.new.rest.now result (star_fields_at end self.old.rest.now) }
+    pub(crate) fn star_fields(&mut self) -> Result<u16, Layout>
+        ensures { Steps as_is self.old self.new result (star_fields_at self.old.end) }
     {
-        let place = self.place(end);
-        let map = self.fields(end, VALUE_FIELDS)?;
+        let place = self.place();
+        let map = self.fields(VALUE_FIELDS)?;
         if stands(map, VALUE) {
             Err(Layout { place })
         } else {
@@ -90,11 +109,11 @@ impl<'a> Cursor<'a> {
     }
 
     // The count of a list field that stands: at least one.
-    pub(crate) fn count(&mut self, end: usize) -> Result<u16, Layout>
-        ensures { Steps as_is self.new.rest.now result (count_at end self.old.rest.now) }
+    pub(crate) fn count(&mut self) -> Result<u16, Layout>
+        ensures { Steps as_is self.old self.new result (count_at self.old.end) }
     {
-        let place = self.place(end);
-        let count = self.number(end)?;
+        let place = self.place();
+        let count = self.number()?;
         if count == 0 {
             Err(Layout { place })
         } else {
@@ -103,23 +122,23 @@ impl<'a> Cursor<'a> {
     }
 
     // How the next expression begins.
-    pub(crate) fn next(&mut self, end: usize) -> Result<Expression<'a>, Layout>
-        ensures { Steps head_of self.new.rest.now result (head_at end self.old.rest.now) }
+    pub(crate) fn next(&mut self) -> Result<Expression<'a>, Layout>
+        ensures { Steps head_of self.old self.new result (head_at self.old.end) }
     {
-        let place = self.place(end);
-        match self.byte(end)? {
+        let place = self.place();
+        match self.byte()? {
             0 => Ok(Expression::None),
             1 => Ok(Expression::False),
             2 => Ok(Expression::True),
-            3 => Ok(Expression::Int(self.text(end)?)),
-            4 => Ok(Expression::Float(self.text(end)?)),
-            5 => Ok(Expression::Str(self.text(end)?)),
+            3 => Ok(Expression::Int(self.text()?)),
+            4 => Ok(Expression::Float(self.text()?)),
+            5 => Ok(Expression::Str(self.text()?)),
             6 => Ok(Expression::Ellipsis),
-            7 => Ok(Expression::Name(self.text(end)?)),
+            7 => Ok(Expression::Name(self.text()?)),
             8 => Ok(Expression::Attribute),
             9 => Ok(Expression::BinOp),
-            10 => Ok(Expression::Tuple(self.number(end)?)),
-            11 => Ok(Expression::List(self.number(end)?)),
+            10 => Ok(Expression::Tuple(self.number()?)),
+            11 => Ok(Expression::List(self.number()?)),
             12 => Ok(Expression::Subscript),
             _ => Err(Layout { place }),
         }

@@ -15,17 +15,16 @@ impl<'a> Reader<'a> {
     pub(crate) fn module(
         &mut self,
         list: &mut Listing<'a>,
-        end: usize,
         holder: Option<usize>,
         depth: u8,
     ) -> Result<(), Fault>
-        ensures { Gathers self.new.at.rest.now (gathered self.new.found list.new) result (audit_module end depth holder self.old.at.rest.now (gathered self.old.found list.old)) }
+        ensures { Gathers self.old self.new list.old list.new result (audit_module self.old.at.end depth holder) }
     {
         if depth == 0 {
-            let place = self.at.place(end);
+            let place = self.at.place();
             return Err(Fault::Broken(Layout { place }));
         }
-        self.module_record(list, end, holder, depth - 1)
+        self.module_record(list, holder, depth - 1)
     }
 
     // A module whose parts may go this deep.
@@ -33,22 +32,20 @@ impl<'a> Reader<'a> {
     fn module_record(
         &mut self,
         list: &mut Listing<'a>,
-        end: usize,
         holder: Option<usize>,
         depth: u8,
     ) -> Result<(), Fault>
-        ensures { Gathers self.new.at.rest.now (gathered self.new.found list.new) result (audit_module_over end depth (audit_module end depth) holder self.old.at.rest.now (gathered self.old.found list.old)) }
+        ensures { Gathers self.old self.new list.old list.new result (audit_module_over self.old.at.end depth (audit_module self.old.at.end depth) holder) }
     {
-        let place = self.at.place(end);
-        let map = self.at.fields(end, MODULE_FIELDS)?;
-        let name = self.at.text(end)?;
+        let place = self.at.place();
+        let map = self.at.fields(MODULE_FIELDS)?;
+        let name = self.at.text()?;
         let number = list.next();
         self.found.name(place, text::is_identifier(name));
         list.open(place, holder, name)?;
-        self.modules(list, end, stands(map, MODULE_MODULES), Some(number), depth)?;
+        self.modules(list, stands(map, MODULE_MODULES), Some(number), depth)?;
         self.declarations(
             list,
-            end,
             map,
             number,
             File {
@@ -64,16 +61,15 @@ impl<'a> Reader<'a> {
     fn declarations(
         &mut self,
         list: &mut Listing<'a>,
-        end: usize,
         map: u16,
         number: usize,
         file: File,
         depth: u8,
     ) -> Result<(), Fault>
-        ensures { Gathers self.new.at.rest.now (gathered self.new.found list.new) result (audit_rest end depth map number (file_of file.place file.holder) self.old.at.rest.now (gathered self.old.found list.old)) }
+        ensures { Gathers self.old self.new list.old list.new result (audit_rest self.old.at.end depth map number (file_of file.place file.holder)) }
     {
-        let own = self.at.place(end);
-        self.own(end, map, depth)?;
+        let own = self.at.place();
+        self.own(map, depth)?;
         list.settle(
             number,
             File {
@@ -90,19 +86,18 @@ impl<'a> Reader<'a> {
     fn modules(
         &mut self,
         list: &mut Listing<'a>,
-        end: usize,
         stands: bool,
         holder: Option<usize>,
         depth: u8,
     ) -> Result<(), Fault>
-        ensures { Gathers self.new.at.rest.now (gathered self.new.found list.new) result (audit_list end (audit_module end depth holder) stands self.old.at.rest.now (gathered self.old.found list.old)) }
+        ensures { Gathers self.old self.new list.old list.new result (audit_list self.old.at.end (audit_module self.old.at.end depth holder) stands) }
     {
         if !stands {
             return Ok(());
         }
-        let n = self.at.count(end)?;
+        let n = self.at.count()?;
         for _ in 0..n {
-            self.module(list, end, holder, depth)?;
+            self.module(list, holder, depth)?;
         }
         Ok(())
     }

@@ -30,9 +30,8 @@ pub fn read_model<'a>(heap: Global, model: &'a [u8]) -> Result<Audit<'a>, Fault>
 fn pass<'a>(heap: Global, model: &'a [u8]) -> Result<Audit<'a>, Fault>
     ensures { Audits model.now result }
 {
-    let end = model.len();
     let mut reader = Reader {
-        at: Cursor { rest: model },
+        at: Cursor::new(model),
         found: Findings {
             names: None,
             values: None,
@@ -43,14 +42,14 @@ fn pass<'a>(heap: Global, model: &'a [u8]) -> Result<Audit<'a>, Fault>
         files: Vec::new(heap),
         siblings: Vec::new(heap),
     };
-    let start = reader.at.place(end);
-    let version = reader.at.byte(end)?;
+    let start = reader.at.place();
+    let version = reader.at.byte()?;
     if version != VERSION {
         return Err(Fault::Broken(Layout { place: start }));
     }
-    reader.module(&mut list, end, None, DEEPEST)?;
-    if !reader.at.rest.is_empty() {
-        let place = reader.at.place(end);
+    reader.module(&mut list, None, DEEPEST)?;
+    if !reader.at.is_at_end() {
+        let place = reader.at.place();
         return Err(Fault::Broken(Layout { place }));
     }
     Ok(Audit {

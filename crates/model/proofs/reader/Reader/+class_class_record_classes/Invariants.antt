@@ -1,5 +1,6 @@
-use Rattle.std.proofs.Common.{◌≡◌, ◌+◌, ◌-◌, ◌*◌}
-use Rattle.model.specs.Audit.{laps, audit_class}
+use Rattle.std.proofs.Common.{◌+◌, ◌*◌}
+use Rattle.model.specs.Audit.{audit_class}
+use Rattle.model.proofs.Going.{Sofar}
 use Rattle.model.proofs.reader.Reader.+class_class_record_classes.Given as goal
 
 abbrev pub decreases-class : goal.decreases-class
@@ -13,4 +14,4 @@ decreases-classes l = 3 * l.depth + 1
 
 abbrev pub invariant-classes-loop : goal.invariant-classes-loop
 invariant-classes-loop l =
-    laps (audit_class l.end l.depth) l.n l.initial.self.at.rest.now l.initial.self.found ≡ laps (audit_class l.end l.depth) (l.n - l.counter) l.self.at.rest.now l.self.found
+    Sofar (audit_class l.initial.self.at.end l.depth) l.n l.counter l.initial.self.at l.self.at l.initial.self.found l.self.found

@@ -1,5 +1,6 @@
-use Rattle.std.proofs.Common.{◌≡◌, ◌+◌, ◌-◌, ◌*◌}
-use Rattle.model.specs.Audit.{laps, audit_expr}
+use Rattle.std.proofs.Common.{◌+◌, ◌*◌}
+use Rattle.model.specs.Audit.{audit_expr}
+use Rattle.model.proofs.Going.{Sofar}
 use Rattle.model.proofs.reader.Reader.+expression_inside_list.Given as goal
 
 abbrev pub decreases-expression : goal.decreases-expression
@@ -14,4 +15,4 @@ decreases-list l = 3 * l.depth + 1
 -- what is left to read gives what all of it gives
 abbrev pub invariant-list-loop : goal.invariant-list-loop
 invariant-list-loop l =
-    laps (audit_expr l.end l.depth) l.n l.initial.self.at.rest.now l.initial.self.found ≡ laps (audit_expr l.end l.depth) (l.n - l.counter) l.self.at.rest.now l.self.found
+    Sofar (audit_expr l.initial.self.at.end l.depth) l.n l.counter l.initial.self.at l.self.at l.initial.self.found l.self.found

@@ -1,6 +1,7 @@
-use Rattle.std.proofs.Common.{◌≡◌, ◌+◌, ◌-◌, ◌*◌}
+use Rattle.std.proofs.Common.{◌+◌, ◌*◌}
 use Rattle.model.specs.Steps.{gathered}
-use Rattle.model.specs.Audit.{laps, audit_module}
+use Rattle.model.specs.Audit.{audit_module}
+use Rattle.model.proofs.Going.{Sofar}
 use Rattle.model.proofs.reader.Reader.+module_module_record_modules.Given as goal
 
 abbrev pub decreases-module : goal.decreases-module
@@ -14,4 +15,4 @@ decreases-modules l = 3 * l.depth + 1
 
 abbrev pub invariant-modules-loop : goal.invariant-modules-loop
 invariant-modules-loop l =
-    laps (audit_module l.end l.depth l.holder) l.n l.initial.self.at.rest.now (gathered l.initial.self.found l.initial.list) ≡ laps (audit_module l.end l.depth l.holder) (l.n - l.counter) l.self.at.rest.now (gathered l.self.found l.list)
+    Sofar (audit_module l.initial.self.at.end l.depth l.holder) l.n l.counter l.initial.self.at l.self.at (gathered l.initial.self.found l.initial.list) (gathered l.self.found l.list)
