@@ -81,7 +81,8 @@ impl<'a> Reader<'a> {
         Ok(())
     }
 
-    // A list field of submodules, where it stands.
+    // A list field of submodules, where it stands. Its items write the listing too and may lack memory, so it is not read by
+    // `each`: that would need a trait over readers with and without a listing for this one loop.
     #[cycle(module_module_record_modules)]
     fn modules(
         &mut self,

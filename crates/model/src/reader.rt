@@ -22,6 +22,37 @@ pub(crate) struct Reader<'a> {
 }
 
 impl<'a> Reader<'a> {
+    // The next n items, each read by `item`.
+    fn times<F: Fn(&mut Self) -> Result<(), Layout>>(
+        &mut self,
+        n: u16,
+        item: F,
+    ) -> Result<(), Layout>
+        requires { F.IsAlwaysCallable item }
+        ensures { (one : _) → CallsGo (λ x r y. F.post item x r y) one → Goes self.old self.new result (laps (one self.old.at.end) n) }
+    {
+        for _ in 0..n {
+            item(self)?;
+        }
+        Ok(())
+    }
+
+    // A list field, where it stands; `item` reads one of its items.
+    fn each<F: Fn(&mut Self) -> Result<(), Layout>>(
+        &mut self,
+        stands: bool,
+        item: F,
+    ) -> Result<(), Layout>
+        requires { F.IsAlwaysCallable item }
+        ensures { (one : _) → CallsGo (λ x r y. F.post item x r y) one → Goes self.old self.new result (audit_list self.old.at.end (one self.old.at.end) stands) }
+    {
+        if !stands {
+            return Ok(());
+        }
+        let n = self.at.count()?;
+        self.times(n, item)
+    }
+
     // What the head of an expression shows against the rules.
     fn judge(&mut self, place: usize, head: Expression<'a>)
         ensures found { self.new.found ≡ note_head place (head_of head.entry) self.old.found }
@@ -76,10 +107,12 @@ impl<'a> Reader<'a> {
     fn list(&mut self, n: u16, depth: u8) -> Result<(), Layout>
         ensures { Goes self.old self.new result (laps (audit_expr self.old.at.end depth) n) }
     {
-        for _ in 0..n {
-            self.expression(depth)?;
-        }
-        Ok(())
+        self.times(
+            n,
+            |reader|
+                ensures { Goes reader.entry.now reader.exit.now result (audit_expr reader.entry.now.at.end depth) }
+            { reader.expression(depth) },
+        )
     }
 
     fn optional(&mut self, stands: bool, depth: u8) -> Result<(), Layout>
@@ -95,11 +128,7 @@ impl<'a> Reader<'a> {
     fn expressions(&mut self, stands: bool, depth: u8) -> Result<(), Layout>
         ensures { Goes self.old self.new result (audit_exprs self.old.at.end depth stands) }
     {
-        if !stands {
-            return Ok(());
-        }
-        let n = self.at.count()?;
-        self.list(n, depth)
+        self.each(stands, |reader| reader.expression(depth))
     }
 
     // The name of the record at this place.
@@ -151,37 +180,6 @@ impl<'a> Reader<'a> {
         let map = self.at.star_fields()?;
         self.name(place)?;
         self.optional(stands(map, ANNOTATION), depth)
-    }
-
-    // The next n items, each read by `item`.
-    fn times<F: Fn(&mut Self) -> Result<(), Layout>>(
-        &mut self,
-        n: u16,
-        item: F,
-    ) -> Result<(), Layout>
-        requires { F.IsAlwaysCallable item }
-        ensures { (one : _) → CallsGo (λ x r y. F.post item x r y) one → Goes self.old self.new result (laps (one self.old.at.end) n) }
-    {
-        for _ in 0..n {
-            item(self)?;
-        }
-        Ok(())
-    }
-
-    // A list field, where it stands; `item` reads one of its items.
-    fn each<F: Fn(&mut Self) -> Result<(), Layout>>(
-        &mut self,
-        stands: bool,
-        item: F,
-    ) -> Result<(), Layout>
-        requires { F.IsAlwaysCallable item }
-        ensures { (one : _) → CallsGo (λ x r y. F.post item x r y) one → Goes self.old self.new result (audit_list self.old.at.end (one self.old.at.end) stands) }
-    {
-        if !stands {
-            return Ok(());
-        }
-        let n = self.at.count()?;
-        self.times(n, item)
     }
 
     // A list field of arguments, where it stands.
@@ -267,14 +265,12 @@ impl<'a> Reader<'a> {
     fn classes(&mut self, stands: bool, depth: u8) -> Result<(), Layout>
         ensures { Goes self.old self.new result (audit_classes self.old.at.end depth stands) }
     {
-        if !stands {
-            return Ok(());
-        }
-        let n = self.at.count()?;
-        for _ in 0..n {
-            self.class(depth)?;
-        }
-        Ok(())
+        self.each(
+            stands,
+            |reader|
+                ensures { Goes reader.entry.now reader.exit.now result (audit_class reader.entry.now.at.end depth) }
+            { reader.class(depth) },
+        )
     }
 
     // A module's own declarations.
