@@ -3,6 +3,8 @@ pub mod Encode
 pub mod Read
 pub mod Places
 pub mod Laws
+pub mod Fields
+pub mod Maps
 pub mod Steps
 pub mod Rules
 pub mod Files

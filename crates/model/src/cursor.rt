@@ -1,20 +1,13 @@
 // A cursor over the packed bytes, which steps through numbers, texts and tags. It keeps what is left and the model's length,
 // from which a place is told, and at which a fault shows where the bytes run out.
-ghost use Rattle.std.specs.Prelude.{◌≡◌, ◌<◌, IsTrue, length, [], ◌↔◌};
-ghost use Rattle.model.specs.Read.{place as place_of, byte as byte_at, number as number_at, text as text_at, fields as fields_at, star_fields as star_fields_at, bit as bit_of, count as count_at, head as head_at};
+ghost use Rattle.std.specs.Prelude.{◌≡◌, IsTrue, length, [], ◌↔◌};
+ghost use Rattle.model.specs.Read.{place as place_of, byte as byte_at, number as number_at, text as text_at, fields as fields_at, star_fields as star_fields_at, count as count_at, head as head_at};
+ghost use Rattle.model.specs.Maps.{map_of};
 ghost use Rattle.model.specs.Steps.{Steps, Takes, as_is, head_of};
 
 use crate::expression::Expression;
 use crate::fault::Layout;
-use crate::maps::{VALUE, VALUE_FIELDS};
-
-// Whether the bit of this value stands in a map.
-pub(crate) fn stands(map: u16, bit: u16) -> bool
-    requires { 0 < bit }
-    ensures { result ≡ bit_of map bit }
-{
-    map / bit % 2 == 1
-}
+use crate::fields::{Field, Fields, ValueField};
 
 #[derive(Clone, Copy)]
 pub(crate) struct Cursor<'a> {
@@ -82,29 +75,29 @@ impl<'a> Cursor<'a> {
         Ok(taken)
     }
 
-    // A record's map, in which only the bits below `limit` have a name.
-    pub(crate) fn fields(&mut self, limit: u16) -> Result<u16, Layout>
-        ensures { Steps as_is self.old self.new result (fields_at self.old.end limit) }
+    // A record's map, in which only the bits of its fields have a name.
+    pub(crate) fn fields<F: Field>(&mut self) -> Result<Fields<F>, Layout>
+        ensures { Steps map_of self.old self.new result (fields_at self.old.end F.LIMIT) }
     {
         let place = self.place();
         let map = self.number()?;
-        if map < limit {
-            Ok(map)
+        if map < F::LIMIT {
+            Ok(Fields::of(map))
         } else {
             Err(Layout { place })
         }
     }
 
-    // The map of a vararg or kwarg, in which bit 0 has no name.
-    pub(crate) fn star_fields(&mut self) -> Result<u16, Layout>
-        ensures { Steps as_is self.old self.new result (star_fields_at self.old.end) }
+    // The map of a vararg or kwarg, which has no default.
+    pub(crate) fn star_fields(&mut self) -> Result<Fields<ValueField>, Layout>
+        ensures { Steps map_of self.old self.new result (star_fields_at self.old.end) }
     {
         let place = self.place();
-        let map = self.fields(VALUE_FIELDS)?;
-        if stands(map, VALUE) {
+        let fields: Fields<ValueField> = self.fields()?;
+        if fields.has(ValueField::Value) {
             Err(Layout { place })
         } else {
-            Ok(map)
+            Ok(fields)
         }
     }
 

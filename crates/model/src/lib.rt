@@ -4,6 +4,7 @@
 mod cursor;
 mod expression;
 mod fault;
+mod fields;
 mod files;
 mod findings;
 mod laws;
@@ -15,6 +16,7 @@ mod uses;
 
 pub use expression::Expression;
 pub use fault::{Fault, Layout};
+pub use fields::{ClassField, Field, Fields, FunctionField, ModuleField, ValueField};
 pub use files::{File, Listing, Sibling};
 pub use findings::Findings;
 pub use laws::{faults_for_good, faults_in_time, reads_exactly};

@@ -1,13 +1,13 @@
 // The reader of modules, which lists the files as it meets them.
 ghost use Rattle.std.specs.Prelude.{◌≡◌};
 ghost use Rattle.model.specs.Files.{file as file_of};
+ghost use Rattle.model.specs.Maps.{map_of};
 ghost use Rattle.model.specs.Steps.{Gathers, gathered};
 ghost use Rattle.model.specs.Audit.{audit_list, audit_module_over, audit_module, audit_rest};
 
-use crate::cursor::stands;
 use crate::fault::{Fault, Layout};
+use crate::fields::{Fields, ModuleField};
 use crate::files::{File, Listing};
-use crate::maps::{MODULE_FIELDS, MODULE_MODULES};
 use crate::reader::Reader;
 
 impl<'a> Reader<'a> {
@@ -38,15 +38,15 @@ impl<'a> Reader<'a> {
         ensures { Gathers self.old self.new list.old list.new result (audit_module_over self.old.at.end depth (audit_module self.old.at.end depth) holder) }
     {
         let place = self.at.place();
-        let map = self.at.fields(MODULE_FIELDS)?;
+        let fields: Fields<ModuleField> = self.at.fields()?;
         let name = self.at.text()?;
         let number = list.next();
         self.found.name(place, text::is_identifier(name));
         list.open(place, holder, name)?;
-        self.modules(list, stands(map, MODULE_MODULES), Some(number), depth)?;
+        self.modules(list, fields.has(ModuleField::Modules), Some(number), depth)?;
         self.declarations(
             list,
-            map,
+            fields,
             number,
             File {
                 place,
@@ -61,15 +61,15 @@ impl<'a> Reader<'a> {
     fn declarations(
         &mut self,
         list: &mut Listing<'a>,
-        map: u16,
+        fields: Fields<ModuleField>,
         number: usize,
         file: File,
         depth: u8,
     ) -> Result<(), Fault>
-        ensures { Gathers self.old self.new list.old list.new result (audit_rest self.old.at.end depth map number (file_of file.place file.holder)) }
+        ensures { Gathers self.old self.new list.old list.new result (audit_rest self.old.at.end depth (map_of fields) number (file_of file.place file.holder)) }
     {
         let own = self.at.place();
-        self.own(map, depth)?;
+        self.own(fields, depth)?;
         list.settle(
             number,
             File {

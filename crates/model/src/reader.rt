@@ -1,19 +1,15 @@
 // The reader of what a module declares: one pass over the packed bytes that checks the layout and notes what it finds
 // against the rules. Depth is judged before the first byte of an expression or a class.
 ghost use Rattle.std.specs.Prelude.{◌≡◌};
+ghost use Rattle.model.specs.Maps.{map_of};
 ghost use Rattle.model.specs.Steps.{Goes, CallsGo, head_of};
 ghost use Rattle.model.specs.Audit.{note_head, audit_any, audit_list, audit_parts, audit_expr, laps, audit_name, audit_pair, audit_attribute, audit_argument, audit_star, audit_exprs, audit_arguments, audit_parameters, audit_function, audit_functions, audit_attributes, audit_members, audit_class_over, audit_class, audit_classes, audit_own};
 
-use crate::cursor::{Cursor, stands};
+use crate::cursor::Cursor;
 use crate::expression::Expression;
 use crate::fault::Layout;
+use crate::fields::{ClassField, Fields, FunctionField, ModuleField, ValueField};
 use crate::findings::Findings;
-use crate::maps::{
-    ANNOTATION, CLASS_ATTRIBUTES, CLASS_BASES, CLASS_DECORATORS, CLASS_FIELDS, CLASS_INNER,
-    CLASS_METHODS, FUNCTION_DECORATORS, FUNCTION_FIELDS, FUNCTION_KEYWORD, FUNCTION_KWARG,
-    FUNCTION_POSITIONAL, FUNCTION_REGULAR, FUNCTION_RETURNS, FUNCTION_VARARG, MODULE_ATTRIBUTES,
-    MODULE_CLASSES, MODULE_FUNCTIONS, VALUE, VALUE_FIELDS,
-};
 
 #[derive(Clone, Copy)]
 pub(crate) struct Reader<'a> {
@@ -141,11 +137,11 @@ impl<'a> Reader<'a> {
     }
 
     // The value and the annotation of an attribute, or the default and the annotation of an argument.
-    fn pair(&mut self, map: u16, depth: u8) -> Result<(), Layout>
-        ensures { Goes self.old self.new result (audit_pair self.old.at.end depth map) }
+    fn pair(&mut self, fields: Fields<ValueField>, depth: u8) -> Result<(), Layout>
+        ensures { Goes self.old self.new result (audit_pair self.old.at.end depth (map_of fields)) }
     {
-        self.optional(stands(map, VALUE), depth)?;
-        self.optional(stands(map, ANNOTATION), depth)
+        self.optional(fields.has(ValueField::Value), depth)?;
+        self.optional(fields.has(ValueField::Annotation), depth)
     }
 
     // An attribute; one whose map has no bit has neither a value nor an annotation.
@@ -153,10 +149,10 @@ impl<'a> Reader<'a> {
         ensures { Goes self.old self.new result (audit_attribute self.old.at.end depth) }
     {
         let place = self.at.place();
-        let map = self.at.fields(VALUE_FIELDS)?;
+        let fields: Fields<ValueField> = self.at.fields()?;
         self.name(place)?;
-        self.found.attribute(place, map != 0);
-        self.pair(map, depth)
+        self.found.attribute(place, !fields.is_empty());
+        self.pair(fields, depth)
     }
 
     // An argument before or behind the star.
@@ -164,22 +160,22 @@ impl<'a> Reader<'a> {
         ensures { Goes self.old self.new result (audit_argument self.old.at.end depth) }
     {
         let place = self.at.place();
-        let map = self.at.fields(VALUE_FIELDS)?;
+        let fields: Fields<ValueField> = self.at.fields()?;
         self.name(place)?;
-        self.pair(map, depth)
+        self.pair(fields, depth)
     }
 
     // A vararg or kwarg, where it stands: it has no default.
-    fn star(&mut self, stands_there: bool, depth: u8) -> Result<(), Layout>
-        ensures { Goes self.old self.new result (audit_any (audit_star self.old.at.end depth) stands_there) }
+    fn star(&mut self, stands: bool, depth: u8) -> Result<(), Layout>
+        ensures { Goes self.old self.new result (audit_any (audit_star self.old.at.end depth) stands) }
     {
-        if !stands_there {
+        if !stands {
             return Ok(());
         }
         let place = self.at.place();
-        let map = self.at.star_fields()?;
+        let fields = self.at.star_fields()?;
         self.name(place)?;
-        self.optional(stands(map, ANNOTATION), depth)
+        self.optional(fields.has(ValueField::Annotation), depth)
     }
 
     // A list field of arguments, where it stands.
@@ -190,15 +186,15 @@ impl<'a> Reader<'a> {
     }
 
     // A function's parameters and what it returns.
-    fn parameters(&mut self, map: u16, depth: u8) -> Result<(), Layout>
-        ensures { Goes self.old self.new result (audit_parameters self.old.at.end depth map) }
+    fn parameters(&mut self, fields: Fields<FunctionField>, depth: u8) -> Result<(), Layout>
+        ensures { Goes self.old self.new result (audit_parameters self.old.at.end depth (map_of fields)) }
     {
-        self.arguments(stands(map, FUNCTION_POSITIONAL), depth)?;
-        self.arguments(stands(map, FUNCTION_REGULAR), depth)?;
-        self.star(stands(map, FUNCTION_VARARG), depth)?;
-        self.arguments(stands(map, FUNCTION_KEYWORD), depth)?;
-        self.star(stands(map, FUNCTION_KWARG), depth)?;
-        self.optional(stands(map, FUNCTION_RETURNS), depth)
+        self.arguments(fields.has(FunctionField::Positional), depth)?;
+        self.arguments(fields.has(FunctionField::Regular), depth)?;
+        self.star(fields.has(FunctionField::Vararg), depth)?;
+        self.arguments(fields.has(FunctionField::Keyword), depth)?;
+        self.star(fields.has(FunctionField::Kwarg), depth)?;
+        self.optional(fields.has(FunctionField::Returns), depth)
     }
 
     // A function or a method.
@@ -206,10 +202,10 @@ impl<'a> Reader<'a> {
         ensures { Goes self.old self.new result (audit_function self.old.at.end depth) }
     {
         let place = self.at.place();
-        let map = self.at.fields(FUNCTION_FIELDS)?;
+        let fields: Fields<FunctionField> = self.at.fields()?;
         self.name(place)?;
-        self.expressions(stands(map, FUNCTION_DECORATORS), depth)?;
-        self.parameters(map, depth)
+        self.expressions(fields.has(FunctionField::Decorators), depth)?;
+        self.parameters(fields, depth)
     }
 
     // A list field of functions, where it stands.
@@ -227,13 +223,13 @@ impl<'a> Reader<'a> {
     }
 
     // What a class holds but its inner classes.
-    fn members(&mut self, map: u16, depth: u8) -> Result<(), Layout>
-        ensures { Goes self.old self.new result (audit_members self.old.at.end depth map) }
+    fn members(&mut self, fields: Fields<ClassField>, depth: u8) -> Result<(), Layout>
+        ensures { Goes self.old self.new result (audit_members self.old.at.end depth (map_of fields)) }
     {
-        self.expressions(stands(map, CLASS_BASES), depth)?;
-        self.functions(stands(map, CLASS_METHODS), depth)?;
-        self.attributes(stands(map, CLASS_ATTRIBUTES), depth)?;
-        self.expressions(stands(map, CLASS_DECORATORS), depth)
+        self.expressions(fields.has(ClassField::Bases), depth)?;
+        self.functions(fields.has(ClassField::Methods), depth)?;
+        self.attributes(fields.has(ClassField::Attributes), depth)?;
+        self.expressions(fields.has(ClassField::Decorators), depth)
     }
 
     // A class.
@@ -254,10 +250,10 @@ impl<'a> Reader<'a> {
         ensures { Goes self.old self.new result (audit_class_over self.old.at.end depth (audit_class self.old.at.end depth)) }
     {
         let place = self.at.place();
-        let map = self.at.fields(CLASS_FIELDS)?;
+        let fields: Fields<ClassField> = self.at.fields()?;
         self.name(place)?;
-        self.members(map, depth)?;
-        self.classes(stands(map, CLASS_INNER), depth)
+        self.members(fields, depth)?;
+        self.classes(fields.has(ClassField::Inner), depth)
     }
 
     // A list field of classes, where it stands.
@@ -274,11 +270,11 @@ impl<'a> Reader<'a> {
     }
 
     // A module's own declarations.
-    pub(crate) fn own(&mut self, map: u16, depth: u8) -> Result<(), Layout>
-        ensures { Goes self.old self.new result (audit_own self.old.at.end depth map) }
+    pub(crate) fn own(&mut self, fields: Fields<ModuleField>, depth: u8) -> Result<(), Layout>
+        ensures { Goes self.old self.new result (audit_own self.old.at.end depth (map_of fields)) }
     {
-        self.classes(stands(map, MODULE_CLASSES), depth)?;
-        self.functions(stands(map, MODULE_FUNCTIONS), depth)?;
-        self.attributes(stands(map, MODULE_ATTRIBUTES), depth)
+        self.classes(fields.has(ModuleField::Classes), depth)?;
+        self.functions(fields.has(ModuleField::Functions), depth)?;
+        self.attributes(fields.has(ModuleField::Attributes), depth)
     }
 }
