@@ -1,4 +1,3 @@
-pub mod Cuts
 pub mod Going
 pub mod Exact
 pub mod Numbers

@@ -9,7 +9,7 @@ use crate::expression::Expression;
 use crate::fault::Layout;
 use crate::fields::{Field, Fields, ValueField};
 
-#[derive(Clone, Copy)]
+#[derive(Clone, Copy, Debug)]
 pub(crate) struct Cursor<'a> {
     rest: &'a [u8],
     end: usize,
@@ -44,12 +44,11 @@ impl<'a> Cursor<'a> {
     pub(crate) fn byte(&mut self) -> Result<u8, Layout>
         ensures { Steps as_is self.old self.new result (byte_at self.old.end) }
     {
-        if self.rest.len() == 0 {
+        let Some((first, rest)) = self.rest.split_first() else {
             return Err(Layout { place: self.end });
-        }
-        let first = self.rest[0];
-        self.rest = &self.rest[1..];
-        Ok(first)
+        };
+        self.rest = rest;
+        Ok(*first)
     }
 
     // A number of 16 bits, the high byte first.
@@ -66,12 +65,10 @@ impl<'a> Cursor<'a> {
         ensures { Takes self.old self.new result (text_at self.old.end) }
     {
         let count = self.number()?;
-        let length = usize::from(count);
-        if length > self.rest.len() {
+        let Some((taken, rest)) = self.rest.split_at_checked(usize::from(count)) else {
             return Err(Layout { place: self.end });
-        }
-        let taken = &self.rest[0..length];
-        self.rest = &self.rest[length..];
+        };
+        self.rest = rest;
         Ok(taken)
     }
 

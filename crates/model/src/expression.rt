@@ -1,5 +1,5 @@
 // How an expression begins: its kind, with the text or the count that follows its tag. Texts are parts of the model.
-#[derive(Clone, Copy)]
+#[derive(Clone, Copy, Debug, PartialEq, Eq)]
 pub enum Expression<'a> {
     None,
     False,

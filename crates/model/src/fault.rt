@@ -5,12 +5,12 @@ ghost use Rattle.model.specs.declared.fault.Fault.TheVariants.{Broken, Memory};
 use std::alloc::{AllocError, AllocFailed};
 
 // The layout is broken or too deep at this offset.
-#[derive(Clone, Copy)]
+#[derive(Clone, Copy, Debug, PartialEq, Eq)]
 pub struct Layout {
     pub place: usize,
 }
 
-#[derive(Clone, Copy)]
+#[derive(Clone, Copy, Debug, PartialEq, Eq)]
 pub enum Fault {
     Broken(Layout),
     Memory,

@@ -5,7 +5,7 @@ ghost use Rattle.model.specs.Listed.{Opened, Settled};
 use std::alloc::AllocError;
 
 // A file in short, by which it is reached without a walk over those before it.
-#[derive(Clone, Copy)]
+#[derive(Clone, Copy, Debug, PartialEq, Eq)]
 pub struct File {
     // where its module's record starts
     pub place: usize,
@@ -16,7 +16,7 @@ pub struct File {
 }
 
 // A module by who holds it; its name is a part of the model.
-#[derive(Clone, Copy)]
+#[derive(Clone, Copy, Debug, PartialEq, Eq)]
 pub struct Sibling<'a> {
     pub place: usize,
     pub holder: Option<usize>,

@@ -1,21 +1,21 @@
 // What a pass over the model finds against the rules that each item meets or breaks by itself: for each rule the least
 // place at which it shows.
-ghost use Rattle.std.specs.Prelude.{◌≡◌};
+ghost use Rattle.std.specs.Prelude.{◌≡◌, cond};
 ghost use Rattle.model.specs.Audit.{earlier, note_name, note_value, note_empty};
 
-#[derive(Clone, Copy)]
+#[derive(Clone, Copy, Debug, PartialEq, Eq)]
 pub struct Findings {
     pub names: Option<usize>,
     pub values: Option<usize>,
     pub empty: Option<usize>,
 }
 
-fn first(found: Option<usize>, place: usize) -> Option<usize>
-    ensures { result ≡ earlier found place }
+// The least place so far, after one at which a rule is kept or not.
+fn note(least: &mut Option<usize>, place: usize, kept: bool)
+    ensures { least.new ≡ cond kept least.old (earlier least.old place) }
 {
-    match found {
-        Some(earlier) => Some(earlier.min(place)),
-        None => Some(place),
+    if !kept {
+        *least = Some(least.map_or(place, |earlier| earlier.min(place)));
     }
 }
 
@@ -23,24 +23,18 @@ impl Findings {
     pub(crate) fn name(&mut self, place: usize, kept: bool)
         ensures { self.new ≡ note_name place kept self.old }
     {
-        if !kept {
-            self.names = first(self.names, place);
-        }
+        note(&mut self.names, place, kept);
     }
 
     pub(crate) fn value(&mut self, place: usize, kept: bool)
         ensures { self.new ≡ note_value place kept self.old }
     {
-        if !kept {
-            self.values = first(self.values, place);
-        }
+        note(&mut self.values, place, kept);
     }
 
     pub(crate) fn attribute(&mut self, place: usize, kept: bool)
         ensures { self.new ≡ note_empty place kept self.old }
     {
-        if !kept {
-            self.empty = first(self.empty, place);
-        }
+        note(&mut self.empty, place, kept);
     }
 }

@@ -20,5 +20,5 @@ pub use fields::{ClassField, Field, Fields, FunctionField, ModuleField, ValueFie
 pub use files::{File, Listing, Sibling};
 pub use findings::Findings;
 pub use laws::{faults_for_good, faults_in_time, reads_exactly};
-pub use read::{Audit, read_model};
+pub use read::{Audit, DEEPEST, read_model};
 pub use uses::{Declared, Use};

@@ -9,7 +9,7 @@ use crate::reader::Reader;
 use std::alloc::Global;
 
 // How deep modules, classes and expressions may go.
-const DEEPEST: u8 = 64;
+pub const DEEPEST: u8 = 64;
 
 const VERSION: u8 = 1;
 
