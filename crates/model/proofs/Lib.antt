@@ -16,3 +16,4 @@ pub mod ToldModules
 pub mod Soonest
 pub mod Answered
 pub mod Sized
+pub mod Settling

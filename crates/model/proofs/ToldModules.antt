@@ -66,7 +66,7 @@ set_there : {A : Type 0} (xs : List A) (x y : A) (ys : List A) → set (xs ++ x 
 set_there [] x y ys = refl
 set_there (z ∷ xs) x y ys = ap (λ (l : List _). z ∷ l) (set_there xs x y ys)
 
-abbrev gather_in : Option ℕ → Gathered → Modules → Gathered
+abbrev pub gather_in : Option ℕ → Gathered → Modules → Gathered
 gather_in h g ms =
     record { found = judge_all (modules_items ms) g.found; files = g.files ++ entries_in ms (length g.files) h; siblings = g.siblings ++ helds_in ms (length g.files) h }
 
@@ -98,6 +98,12 @@ closed p own h s g ms f f' e =
     (ap (λ (n : ℕ). set ((g.files ++ file p h 0 ∷ []) ++ entries_in ms n (Some k)) k (file p h own)) there ∙ ap (λ (l : List File). set l k (file p h own)) (append_assoc g.files (file p h 0 ∷ []) (entries_in ms (k + 1) (Some k))) ∙ set_there g.files (file p h 0) (file p h own) (entries_in ms (k + 1) (Some k)))
     (ap (λ (n : ℕ). (g.siblings ++ held p h s ∷ []) ++ helds_in ms n (Some k)) there ∙ append_assoc g.siblings (held p h s ∷ []) (helds_in ms (k + 1) (Some k)))
 
+-- what modules in a row gather comes behind what was gathered
+kept_by : (h : Option ℕ) (g e : Gathered) (r : List ℕ) (o : Out Modules) → map_out (λ ms. gather_in h g ms) o ≡ read e r → (hs : List Held) × (e.siblings ≡ g.siblings ++ hs)
+kept_by h g e r (read ms s) x =
+    let y : gather_in h g ms ≡ e = cc in (helds_in ms (length g.files) h, ap (λ (z : Gathered). z.siblings) (sym y))
+kept_by h g e r (fault p) x = let z : ◌≡◌ {A = ℕ} 0 1 = cc in absurd (omega arith)
+
 module_told_over : (n d : ℕ) (one : List ℕ → Out Module) (pass : Option ℕ → List ℕ → Gathered → Out Gathered) → ((h : Option ℕ) → Tells (λ m g. gather_of h g m) one (pass h)) → (h : Option ℕ) → Tells (λ m g. gather_of h g m) (module_over n d one) (audit_module_over n d pass h)
 module_told_over n d one pass t h bs g =
     let k : ℕ = length g.files in
@@ -120,6 +126,10 @@ pub module-told : (n d : ℕ) (h : Option ℕ) → Tells (λ m g. gather_of h g 
 unfolding one_module audit_module
 module-told n zero h bs g = refl
 module-told n (suc d) h bs g = module_told_over n d (one_module n d) (audit_module n d) (module-told n d) h bs g
+
+pub submodules_kept : (n d : ℕ) (h : Option ℕ) (b : Bool) (bs r : List ℕ) (g e : Gathered) → audit_list n (audit_module n d h) b bs g ≡ read e r → (hs : List Held) × (e.siblings ≡ g.siblings ++ hs)
+submodules_kept n d h b bs r g e x =
+    kept_by h g e r (listed n no_module add_module (one_module n d) b bs) (sym (listed-told (λ m g. gather_of h g m) (λ ms g. gather_in h g ms) no_module add_module (one_module n d) (audit_module n d h) (gather_none h) (λ m ms g. gather_more h m ms g) (module-told n d h) n b bs g) ∙ x)
 
 end-told : (n : ℕ) (m : Module) (r : List ℕ) → audit_end n (gather_of None nothing m) r ≡ map_out gather_all (ended n m r)
 end-told n m [] = refl

@@ -7,7 +7,8 @@ use Rattle.model.specs.declared.fault.Layout.{Layout}
 use Rattle.model.specs.declared.fault.Fault.{Fault}
 use Rattle.model.specs.declared.fault.Fault.TheVariants.{Broken, Memory}
 use Rattle.model.specs.declared.findings.Findings.{Findings}
-use Rattle.model.specs.declared.files.Sibling.{Sibling}
+use Rattle.model.specs.declared.files.File.{File}
+use Rattle.model.specs.declared.files.Listed.{Listed}
 use Rattle.model.specs.declared.files.Listing.{Listing}
 use Rattle.model.specs.Files.{Held, held}
 use Rattle.model.specs.declared.uses.Use.{Use as UseOf}
@@ -66,12 +67,15 @@ Goes before after (Err e) one = one before.at.rest.now before.found ≡ fault e.
 abbrev pub CallsGo : (MutBor Reader → Result (Unit {0}) Layout → MutBor Reader → Type 0) → (ℕ → List ℕ → Findings → Out Findings) → Type 0
 CallsGo post one = (x y : MutBor Reader) (r : Result (Unit {0}) Layout) → post x r y → Goes x.now y.now r (one x.now.at.end)
 
-abbrev pub held_of : Sibling → Held
-held_of x = held x.place x.holder x.name.now
+abbrev pub file_of : Listed → File
+file_of x = x.file
+
+abbrev pub held_of : Listed → Held
+held_of x = held x.file.place x.file.holder x.name.now
 
 -- what the code has gathered
 abbrev pub gathered : Findings → Listing → Gathered
-gathered found list = record { found = found; files = vec_items list.files; siblings = map held_of (vec_items list.siblings) }
+gathered found list = record { found = found; files = map file_of (vec_items list.modules); siblings = map held_of (vec_items list.modules) }
 
 -- the same of a pass that may lack memory, of which it then says nothing
 abbrev pub Gathers : {T : Type 0} → Reader → Reader → Listing → Listing → Result T Fault → (List ℕ → Gathered → Out Gathered) → Type 0

@@ -111,7 +111,8 @@ impl<'a> Cursor<'a> {
         }
     }
 
-    // How the next expression begins.
+    // How the next expression begins. The tags stand as numbers: an enum of them would name each kind once more, only to be
+    // read into an Expression at once.
     pub(crate) fn next(&mut self) -> Result<Expression<'a>, Layout>
         ensures { Steps head_of self.old self.new result (head_at self.old.end) }
     {

@@ -1,6 +1,7 @@
 // The files of a model as the reader lists them.
-ghost use Rattle.std.specs.Prelude.{◌≡◌, [], ◌∷◌, ◌++◌, length, vec_len, OnOk, slice_set};
-ghost use Rattle.model.specs.Listed.{Opened, Settled};
+ghost use Rattle.std.specs.Prelude.{◌≡◌, ◌<◌, length, map, OnOk, slice_set, get_or};
+ghost use Rattle.model.specs.Steps.{file_of};
+ghost use Rattle.model.specs.Listed.{Opened, with_own};
 
 use std::alloc::AllocError;
 
@@ -15,27 +16,16 @@ pub struct File {
     pub own: usize,
 }
 
-// A module by who holds it; its name is a part of the model.
-#[derive(Clone, Copy, Debug, PartialEq, Eq)]
-pub struct Sibling<'a> {
-    pub place: usize,
-    pub holder: Option<usize>,
+// A module as the reader lists it: its file, and its name, a part of the model.
+#[derive(Clone, Copy, Debug)]
+pub struct Listed<'a> {
+    pub file: File,
     pub name: &'a [u8],
 }
 
 #[derive(Drop)]
 pub struct Listing<'a> {
-    pub files: Vec<File>,
-    pub siblings: Vec<Sibling<'a>>,
-}
-
-// What is now known of the file with this number.
-fn place_file(files: &mut Vec<File>, number: usize, file: File)
-    ensures { files.new.items ≡ slice_set files.old.items number file }
-{
-    if number < files.len() {
-        files[number] = file;
-    }
+    pub modules: Vec<Listed<'a>>,
 }
 
 impl<'a> Listing<'a> {
@@ -48,14 +38,12 @@ impl<'a> Listing<'a> {
     ) -> Result<(), AllocError>
         ensures { OnOk result (Opened place holder name.now self.old self.new) }
     {
-        self.files.push(File {
-            place,
-            holder,
-            own: 0,
-        })?;
-        self.siblings.push(Sibling {
-            place,
-            holder,
+        self.modules.push(Listed {
+            file: File {
+                place,
+                holder,
+                own: 0,
+            },
             name,
         })?;
         Ok(())
@@ -63,14 +51,17 @@ impl<'a> Listing<'a> {
 
     // How many files are listed: the next one's number.
     pub(crate) fn next(&self) -> usize
-        ensures { result ≡ length self.now.files.items }
+        ensures { result ≡ length (map file_of self.now.modules.items) }
     {
-        self.files.len()
+        self.modules.len()
     }
 
-    pub(crate) fn settle(&mut self, number: usize, file: File)
-        ensures { Settled number file self.old self.new }
+    // The module with this number learns where its own declarations start.
+    pub(crate) fn settle(&mut self, number: usize, own: usize)
+        ensures { (d : _) → number < length self.old.modules.items → self.new.modules.items ≡ slice_set self.old.modules.items number (with_own own (get_or self.old.modules.items number d)) }
     {
-        place_file(&mut self.files, number, file);
+        if number < self.modules.len() {
+            self.modules[number].file.own = own;
+        }
     }
 }

@@ -17,7 +17,7 @@ mod uses;
 pub use expression::Expression;
 pub use fault::{Fault, Layout};
 pub use fields::{ClassField, Field, Fields, FunctionField, ModuleField, ValueField};
-pub use files::{File, Listing, Sibling};
+pub use files::{File, Listed, Listing};
 pub use findings::Findings;
 pub use laws::{faults_for_good, faults_in_time, reads_exactly};
 pub use read::{Audit, DEEPEST, read_model};

@@ -1,13 +1,12 @@
 // The reader of modules, which lists the files as it meets them.
 ghost use Rattle.std.specs.Prelude.{◌≡◌};
-ghost use Rattle.model.specs.Files.{file as file_of};
 ghost use Rattle.model.specs.Maps.{map_of};
 ghost use Rattle.model.specs.Steps.{Gathers, gathered};
-ghost use Rattle.model.specs.Audit.{audit_list, audit_module_over, audit_module, audit_rest};
+ghost use Rattle.model.specs.Audit.{audit_list, audit_module_over, audit_module};
 
 use crate::fault::{Fault, Layout};
 use crate::fields::{Fields, ModuleField};
-use crate::files::{File, Listing};
+use crate::files::Listing;
 use crate::reader::Reader;
 
 impl<'a> Reader<'a> {
@@ -27,7 +26,7 @@ impl<'a> Reader<'a> {
         self.module_record(list, holder, depth - 1)
     }
 
-    // A module whose parts may go this deep.
+    // A module whose parts may go this deep; its file learns where its own declarations start.
     #[cycle(module_module_record_modules)]
     fn module_record(
         &mut self,
@@ -44,40 +43,9 @@ impl<'a> Reader<'a> {
         self.found.name(place, text::is_identifier(name));
         list.open(place, holder, name)?;
         self.modules(list, fields.has(ModuleField::Modules), Some(number), depth)?;
-        self.declarations(
-            list,
-            fields,
-            number,
-            File {
-                place,
-                holder,
-                own: 0,
-            },
-            depth,
-        )
-    }
-
-    // What a module declares itself; its file learns where that starts.
-    fn declarations(
-        &mut self,
-        list: &mut Listing<'a>,
-        fields: Fields<ModuleField>,
-        number: usize,
-        file: File,
-        depth: u8,
-    ) -> Result<(), Fault>
-        ensures { Gathers self.old self.new list.old list.new result (audit_rest self.old.at.end depth (map_of fields) number (file_of file.place file.holder)) }
-    {
         let own = self.at.place();
         self.own(fields, depth)?;
-        list.settle(
-            number,
-            File {
-                place: file.place,
-                holder: file.holder,
-                own,
-            },
-        );
+        list.settle(number, own);
         Ok(())
     }
 

@@ -39,8 +39,7 @@ fn pass<'a>(heap: Global, model: &'a [u8]) -> Result<Audit<'a>, Fault>
         },
     };
     let mut list = Listing {
-        files: Vec::new(heap),
-        siblings: Vec::new(heap),
+        modules: Vec::new(heap),
     };
     let start = reader.at.place();
     let version = reader.at.byte()?;
