@@ -4,7 +4,7 @@ use Rattle.std.proofs.lemmas.List.{take_more, map-append}
 use Rattle.model.specs.Limits.{Keyed, occurs, distinct, repeats_after, over_after, same_held, same_reference, same_text_of, held_key, use_key, declared_key, distinct_allowed, repeated_siblings, surplus_uses, surplus_declared_of}
 use Rattle.model.specs.Rules.{least}
 use Rattle.model.specs.Steps.{held_of, use_of, declared_of}
-use Rattle.model.specs.declared.files.Sibling.{Sibling}
+use Rattle.model.specs.declared.files.Listed.{Listed}
 use Rattle.model.specs.declared.uses.Use.{Use}
 use Rattle.model.specs.declared.uses.Declared.{Declared}
 use Rattle.limits.specs.declared.walk.Rule.{Rule}
@@ -25,7 +25,7 @@ abbrev wide_name : List ℕ → Whole
 wide_name k = (None, ([], k))
 
 -- the entries of each list
-abbrev pub held_entry : Sibling → Keyed Whole
+abbrev pub held_entry : Listed → Keyed Whole
 held_entry x = wide wide_held (held_key (held_of x))
 
 abbrev pub use_entry : Use → Keyed Whole
@@ -78,7 +78,7 @@ module _ {A : Type 0} (f : A → Keyed Whole) (rule : Rule) (xs : List A) (i : �
   met_all : (w : Walk) → length xs ≤ i → Met rule (map f (take i xs)) w → w.least ≡ least (shown_after (test_of same rule) [] (map f xs))
   met_all w h m = m.least_is ∙ ap (λ ys. least (shown_after (test_of same rule) [] (map f ys))) (take_all i xs h)
 
-pub siblings-all : (xs : List Sibling) (i : ℕ) (w : Walk) → length xs ≤ i → Met Repeat (map held_entry (take i xs)) w → w.least ≡ least (repeated_siblings (map held_of xs))
+pub siblings-all : (xs : List Listed) (i : ℕ) (w : Walk) → length xs ≤ i → Met Repeat (map held_entry (take i xs)) w → w.least ≡ least (repeated_siblings (map held_of xs))
 siblings-all xs i w h m =
     met_all held_entry Repeat xs i w h m
     ∙ ap least (shown_wide same_held wide_held (λ _ _. refl) held_of held_key Repeat [] xs ∙ sym (repeats_shown same_held [] (map held_key (map held_of xs))))

@@ -8,25 +8,25 @@ ghost use Rattle.model.specs.Steps.{held_of, use_of, declared_of};
 
 mod walk;
 
-use model::{Declared, Sibling, Use};
+use model::{Declared, Listed, Use};
 use std::alloc::{AllocError, Global};
 use walk::{Key, Rule, Walk};
 
 // The least place of a module that has a sibling of the same name before it.
 pub fn repeated_sibling<'a>(
     heap: Global,
-    siblings: &[Sibling<'a>],
+    siblings: &[Listed<'a>],
 ) -> Result<Option<usize>, AllocError>
     ensures { IfOk result (λ p. p ≡ least (repeated_siblings (map held_of siblings.now))) }
 {
     let mut walk = Walk::new(heap);
     for s in siblings {
         let key = Key {
-            group: s.holder,
+            group: s.file.holder,
             from: b"",
             name: s.name,
         };
-        walk.meet(Rule::Repeat, s.place, key)?;
+        walk.meet(Rule::Repeat, s.file.place, key)?;
     }
     Ok(walk.least)
 }

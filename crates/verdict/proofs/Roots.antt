@@ -1,7 +1,7 @@
 -- The root's name, and the lesser of two finds.
 use Rattle.std.proofs.Common.{◌≡◌, ℕ, Bool, true, false, cond, ◌&&◌, eqb, List, [], ◌∷◌, ◌++◌, map, length, get_or, Some, None, Option, sym, refl, ap, ◌∙◌, arith}
 use Rattle.std.specs.Str.{bytes_eq}
-use Rattle.model.specs.declared.files.Sibling.{Sibling}
+use Rattle.model.specs.declared.files.Listed.{Listed}
 use Rattle.model.specs.Limits.{same_text_of}
 use Rattle.model.specs.Uses.{builtins}
 use Rattle.model.specs.Rules.{least}
@@ -15,7 +15,7 @@ same_bytes [] (y ∷ ys) = refl
 same_bytes (x ∷ xs) [] = refl
 same_bytes (x ∷ xs) (y ∷ ys) = ap (λ (b : Bool). eqb x y && b) (same_bytes xs ys)
 
-pub no_root : (xs : List Sibling) → length xs ≡ 0 → None ≡ least (root_named_of (map held_of xs))
+pub no_root : (xs : List Listed) → length xs ≡ 0 → None ≡ least (root_named_of (map held_of xs))
 no_root [] h = refl
 no_root (x ∷ xs) h = absurd (omega arith)
 
@@ -25,9 +25,9 @@ chosen true false p e = let z : ◌≡◌ {A = ℕ} 0 1 = cc in absurd (omega ar
 chosen false true p e = let z : ◌≡◌ {A = ℕ} 0 1 = cc in absurd (omega arith)
 chosen false false p e = refl
 
-pub root_is : (xs : List Sibling) (d : Sibling) (c : Bool) → (length xs ≡ 0 → ⊥) → c ≡ same_text_of (get_or xs 0 d).name.now builtins → cond c (Some (get_or xs 0 d).place) None ≡ least (root_named_of (map held_of xs))
+pub root_is : (xs : List Listed) (d : Listed) (c : Bool) → (length xs ≡ 0 → ⊥) → c ≡ same_text_of (get_or xs 0 d).name.now builtins → cond c (Some (get_or xs 0 d).file.place) None ≡ least (root_named_of (map held_of xs))
 root_is [] d c h e = absurd (h refl)
-root_is (x ∷ xs) d c h e = chosen (same_text_of x.name.now builtins) c x.place (sym e)
+root_is (x ∷ xs) d c h e = chosen (same_text_of x.name.now builtins) c x.file.place (sym e)
 
 merged_soonest : (a b : Option ℕ) → merged a b ≡ soonest a b
 merged_soonest None b = refl

@@ -9,7 +9,7 @@ ghost use Rattle.verdict.specs.Judged.{soonest as soonest_of, root_named_of, own
 ghost use Rattle.model.specs.Verdict.{modules_allowed};
 
 use crate::refusal::Refusal;
-use model::{File, Findings, Sibling};
+use model::{File, Findings, Listed};
 use std::alloc::{AllocError, Global};
 
 // So many modules are allowed.
@@ -32,15 +32,15 @@ fn is_builtins(name: &[u8]) -> bool
 }
 
 // The root where it is called builtins, which is the module of Python's own names.
-fn root_named<'a>(siblings: &[Sibling<'a>]) -> Option<usize>
-    ensures { result ≡ least (root_named_of (list_map held_of siblings.now)) }
+fn root_named<'a>(modules: &[Listed<'a>]) -> Option<usize>
+    ensures { result ≡ least (root_named_of (list_map held_of modules.now)) }
 {
-    if siblings.len() == 0 {
+    if modules.len() == 0 {
         return None;
     }
-    let root = siblings[0];
+    let root = modules[0];
     if is_builtins(root.name) {
-        return Some(root.place);
+        return Some(root.file.place);
     }
     None
 }
@@ -99,18 +99,18 @@ pub(crate) fn check<'a>(
     heap: Global,
     model: &[u8],
     found: Findings,
-    siblings: &[Sibling<'a>],
+    modules: &[Listed<'a>],
     files: &[File],
 ) -> Result<(), Refusal>
-    ensures { Checks model.now (record { found = found; files = files.now; siblings = list_map held_of siblings.now }) result }
+    ensures { Checks model.now (record { found = found; files = files.now; siblings = list_map held_of modules.now }) result }
 {
-    if let Some(place) = soonest(root_named(siblings), found.names) {
+    if let Some(place) = soonest(root_named(modules), found.names) {
         return Err(Refusal::Name(place));
     }
     if let Some(place) = found.values {
         return Err(Refusal::Value(place));
     }
-    if let Some(place) = limits::repeated_sibling(heap, siblings)? {
+    if let Some(place) = limits::repeated_sibling(heap, modules)? {
         return Err(Refusal::Sibling(place));
     }
     if let Some(place) = found.empty {
