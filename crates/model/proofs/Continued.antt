@@ -7,6 +7,7 @@ use Rattle.std.proofs.lemmas.Bool.{leb-true, leb-false, ltb-true, eqb-false, con
 use Rattle.model.specs.Encode.{field, stands, any, number as number_bytes, text as text_bytes}
 use Rattle.model.specs.Read.{Out, read, fault, bind, place, number, text, fields, bit, count, rows, listed, optional, star_fields}
 use Rattle.model.specs.Laws.{Bytes}
+use Rattle.model.proofs.Exact.{bytes-behind}
 
 -- a fault at p stands where `rest` begins; or the bytes ran out at p and `rest` is the last of them
 abbrev pub Near : ℕ → List ℕ → ℕ → Type 0
@@ -42,14 +43,9 @@ pub record Chain {A : Type 0} (w : A → List ℕ) (C : A → Type 0) (n : ℕ) 
   pub ends : CanEnd w C done
   pub good : Good w C n (done ++ left) o
 
-all-behind : (xs ys : List ℕ) → Bytes (xs ++ ys) → Bytes ys
-all-behind [] ys h = h
-all-behind (x ∷ xs) ys h = all-behind xs ys h.1
-
 step_good : {A B : Type 0} (w : A → List ℕ) (C : A → Type 0) (W : B → List ℕ) (D : B → Type 0) (n : ℕ) (done left : List ℕ) (o : Out A) (f : A → List ℕ → Out B) → Bytes left → Good w C n left o → ((a : A) (r : List ℕ) → Bytes r → C a → Chain W D n (done ++ w a) r (f a r)) → Good W D n (done ++ left) (bind o f)
 step_good w C W D n done left (read a r) f b g h =
-    let bw : Bytes (w a ++ r) = subst Bytes g.0 b in
-    subst (λ x. Good W D n x (f a r)) (append_assoc done (w a) r ∙ ap (λ x. done ++ x) (sym g.0)) (h a r (all-behind (w a) r bw) g.1).good
+    subst (λ x. Good W D n x (f a r)) (append_assoc done (w a) r ∙ ap (λ x. done ++ x) (sym g.0)) (h a r (bytes-behind (w a) r left g.0 b) g.1).good
 step_good w C W D n done left (fault p) f b g h =
     let e : CanEnd W D (done ++ w g.value) = (h g.value [] tt g.holds).ends in
     record {

@@ -12,21 +12,15 @@ use Rattle.model.specs.Listed.{with_own, Opened}
 use Rattle.model.specs.Audit.{audit_list, audit_module}
 use Rattle.model.proofs.ToldModules.{submodules_kept}
 
-head_same : {A : Type 0} (x y : A) (xs ys : List A) → x ∷ xs ≡ y ∷ ys → x ≡ y
-head_same x y xs ys e = cc
-
-tail_same : {A : Type 0} (x y : A) (xs ys : List A) → x ∷ xs ≡ y ∷ ys → xs ≡ ys
-tail_same x y xs ys e = cc
-
 module _ (p own : ℕ) (h : Option ℕ) (s : List ℕ) where
   files_settled : (d : Listed) (before : List Held) (ms : List Listed) (hs : List Held) → map held_of ms ≡ before ++ held p h s ∷ hs → map file_of (set ms (length before) (with_own own (get_or ms (length before) d))) ≡ set (map file_of ms) (length before) (file p h own)
   files_settled d [] [] hs e = absurd (omega (arith, ap length e))
   files_settled d [] (x ∷ xs) hs e =
-      let y = head_same (held_of x) (held p h s) _ _ e in
+      let y : held_of x ≡ held p h s = cc in
       ap (λ (z : Held). file z.place z.holder own ∷ map file_of xs) y
   files_settled d (b ∷ before) [] hs e = absurd (omega (arith, ap length e))
   files_settled d (b ∷ before) (x ∷ xs) hs e =
-      ap (λ (l : List File). x.file ∷ l) (files_settled d before xs hs (tail_same _ _ (map held_of xs) _ e))
+      ap (λ (l : List File). x.file ∷ l) (files_settled d before xs hs (let y : map held_of xs ≡ before ++ held p h s ∷ hs = cc in y))
 
   siblings_settled : (d : Listed) (before : List Held) (ms : List Listed) → map held_of (set ms (length before) (with_own own (get_or ms (length before) d))) ≡ map held_of ms
   siblings_settled d [] [] = refl

@@ -1,5 +1,6 @@
 -- The same of classes, modules and the whole model: what the one pass gathers is what the tree holds.
-use Rattle.std.proofs.Common.{◌≡◌, ℕ, zero, suc, ◌+◌, Bool, true, false, cond, eqb, List, [], ◌∷◌, ◌++◌, length, set, Some, None, Option, sym, refl, ap, ◌∙◌, append_assoc, arith, length-append}
+use Rattle.std.proofs.Common.{◌≡◌, ℕ, zero, suc, ◌+◌, Bool, true, false, cond, eqb, List, [], ◌∷◌, ◌++◌, length, set, Some, None, Option, sym, refl, ap, ◌∙◌, append_assoc, append-nil, arith, length-append}
+use Rattle.std.proofs.Math.Seq.{set-append_seam}
 use Rattle.text.specs.Names.{identifier}
 use Rattle.model.specs.declared.findings.Findings.{Findings}
 use Rattle.model.specs.declared.files.File.{File}
@@ -62,10 +63,6 @@ mutual
       let c = length-append (entries m k h) (entries_in ms (k + modules_within m) h) in
       omega arith
 
-set_there : {A : Type 0} (xs : List A) (x y : A) (ys : List A) → set (xs ++ x ∷ ys) (length xs) y ≡ xs ++ y ∷ ys
-set_there [] x y ys = refl
-set_there (z ∷ xs) x y ys = ap (λ (l : List _). z ∷ l) (set_there xs x y ys)
-
 abbrev pub gather_in : Option ℕ → Gathered → Modules → Gathered
 gather_in h g ms =
     record { found = judge_all (modules_items ms) g.found; files = g.files ++ entries_in ms (length g.files) h; siblings = g.siblings ++ helds_in ms (length g.files) h }
@@ -73,12 +70,8 @@ gather_in h g ms =
 gathered-same : (f f' : Findings) (xs xs' : List File) (ys ys' : List Held) → f ≡ f' → xs ≡ xs' → ys ≡ ys' → ◌≡◌ {A = Gathered} (record { found = f; files = xs; siblings = ys }) (record { found = f'; files = xs'; siblings = ys' })
 gathered-same f f' xs xs' ys ys' a b c = rw (a, b, c) refl
 
-append_none : {A : Type 0} (xs : List A) → xs ++ [] ≡ xs
-append_none [] = refl
-append_none (x ∷ xs) = ap (λ (l : List _). x ∷ l) (append_none xs)
-
 gather_none : (h : Option ℕ) (g : Gathered) → gather_in h g no_module ≡ g
-gather_none h g = gathered-same _ _ _ _ _ _ refl (append_none g.files) (append_none g.siblings)
+gather_none h g = gathered-same _ _ _ _ _ _ refl (append-nil g.files) (append-nil g.siblings)
 
 gather_more : (h : Option ℕ) (m : Module) (ms : Modules) (g : Gathered) → gather_in h g (add_module m ms) ≡ gather_in h (gather_of h g m) ms
 gather_more h m ms g =
@@ -95,7 +88,7 @@ closed p own h s g ms f f' e =
     let k : ℕ = length g.files in
     let there : length (g.files ++ file p h 0 ∷ []) ≡ k + 1 = length-append g.files (file p h 0 ∷ []) in
     gathered-same _ _ _ _ _ _ e
-    (ap (λ (n : ℕ). set ((g.files ++ file p h 0 ∷ []) ++ entries_in ms n (Some k)) k (file p h own)) there ∙ ap (λ (l : List File). set l k (file p h own)) (append_assoc g.files (file p h 0 ∷ []) (entries_in ms (k + 1) (Some k))) ∙ set_there g.files (file p h 0) (file p h own) (entries_in ms (k + 1) (Some k)))
+    (ap (λ (n : ℕ). set ((g.files ++ file p h 0 ∷ []) ++ entries_in ms n (Some k)) k (file p h own)) there ∙ ap (λ (l : List File). set l k (file p h own)) (append_assoc g.files (file p h 0 ∷ []) (entries_in ms (k + 1) (Some k))) ∙ set-append_seam g.files (file p h 0) (entries_in ms (k + 1) (Some k)) (file p h own))
     (ap (λ (n : ℕ). (g.siblings ++ held p h s ∷ []) ++ helds_in ms n (Some k)) there ∙ append_assoc g.siblings (held p h s ∷ []) (helds_in ms (k + 1) (Some k)))
 
 -- what modules in a row gather comes behind what was gathered

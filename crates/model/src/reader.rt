@@ -92,8 +92,7 @@ impl<'a> Reader<'a> {
                 self.expression(depth)?;
                 self.expression(depth)
             }
-            Expression::Tuple(n) => self.list(n, depth),
-            Expression::List(n) => self.list(n, depth),
+            Expression::Tuple(n) | Expression::List(n) => self.list(n, depth),
             _ => Ok(()),
         }
     }
@@ -115,9 +114,10 @@ impl<'a> Reader<'a> {
         ensures { Goes self.old self.new result (audit_any (audit_expr self.old.at.end depth) stands) }
     {
         if stands {
-            return self.expression(depth);
+            self.expression(depth)
+        } else {
+            Ok(())
         }
-        Ok(())
     }
 
     // A list field of expressions, where it stands.
