@@ -39,8 +39,8 @@ pub fn surplus_use<'a>(heap: Global, uses: &[Use<'a>]) -> Result<Option<usize>, 
     for u in uses {
         let key = Key {
             group: None,
-            from: u.from,
-            name: u.name,
+            from: u.reference.from,
+            name: u.reference.name,
         };
         walk.meet(Rule::Surplus, u.place, key)?;
     }

@@ -17,3 +17,4 @@ pub mod ToldModules
 pub mod Soonest
 pub mod Answered
 pub mod Sized
+pub mod Leasts

@@ -19,4 +19,4 @@ pub use files::{File, Listing, Sibling};
 pub use findings::Findings;
 pub use laws::{faults_for_good, faults_in_time, reads_exactly};
 pub use read::{Audit, read_model};
-pub use uses::{Declared, Use};
+pub use uses::{Declared, Reference, Use};
