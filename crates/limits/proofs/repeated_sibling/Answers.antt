@@ -1,13 +1,10 @@
-use Rattle.limits.specs.declared.walk.Rule.TheVariants.{Repeat}
-use Rattle.limits.proofs.Wide.{held_entry, met_more, siblings-all}
+use Rattle.std.proofs.Common.{◌&&◌, refl, ◌∙◌}
+use Rattle.std.proofs.lemmas.Result.{IfOk-weaker}
+use Rattle.model.specs.Limits.{same_held, held_key}
+use Rattle.model.specs.Steps.{held_of}
+use Rattle.limits.proofs.Same.{then_ties, text_ties, holder_ties, repeats_fit}
 use Rattle.limits.proofs.repeated_sibling.Goals as goal
 
-pub loop-s-init : goal.loop-s-init
-loop-s-init c = c.new-walk.ensures Repeat
-
-pub loop-s-preserved : goal.loop-s-preserved
-loop-s-preserved c =
-    met_more held_entry Repeat c.args.siblings.now c.loop-s.s-index _ c.loop-s.walk c.meet.new.self c.loop-s-test.true c.in_ok-meet.ensures c.loop-s.invariant
-
 pub returns : goal.returns
-returns c = siblings-all c.args.siblings.now c.loop-s.s-index c.loop-s.walk c.loop-s-test.false c.loop-s.invariant
+returns c =
+    IfOk-weaker c.least_repeat.result _ _ (λ p e. e ∙ repeats_fit _ same_held (λ x. (x.0, x.1.now)) (λ x y. then_ties _ _ ∙ (λ i. holder_ties x.0 y.0 i && text_ties x.1.now y.1.now i)) _ _ held_key held_of (λ _. refl) c.args.siblings.now) c.least_repeat.ensures

@@ -1,13 +1,10 @@
-use Rattle.limits.specs.declared.walk.Rule.TheVariants.{Surplus}
-use Rattle.limits.proofs.Wide.{declared_entry, met_more, declared-all}
+use Rattle.std.proofs.Common.{refl, ◌∙◌}
+use Rattle.std.proofs.lemmas.Result.{IfOk-weaker}
+use Rattle.model.specs.Limits.{same_text_of, declared_key, distinct_allowed}
+use Rattle.model.specs.Steps.{declared_of}
+use Rattle.limits.proofs.Same.{text_ties, over_fit}
 use Rattle.limits.proofs.surplus_declared.Goals as goal
 
-pub loop-d-init : goal.loop-d-init
-loop-d-init c = c.new-walk.ensures Surplus
-
-pub loop-d-preserved : goal.loop-d-preserved
-loop-d-preserved c =
-    met_more declared_entry Surplus c.args.declared.now c.loop-d.d-index _ c.loop-d.walk c.meet.new.self c.loop-d-test.true c.in_ok-meet.ensures c.loop-d.invariant
-
 pub returns : goal.returns
-returns c = declared-all c.args.declared.now c.loop-d.d-index c.loop-d.walk c.loop-d-test.false c.loop-d.invariant
+returns c =
+    IfOk-weaker c.least_surplus.result _ _ (λ p e. e ∙ over_fit _ same_text_of (λ x. x.now) (λ x y. text_ties x.now y.now) _ _ declared_key declared_of (λ _. refl) distinct_allowed c.args.declared.now) c.least_surplus.ensures

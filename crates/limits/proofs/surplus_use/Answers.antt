@@ -1,13 +1,10 @@
-use Rattle.limits.specs.declared.walk.Rule.TheVariants.{Surplus}
-use Rattle.limits.proofs.Wide.{use_entry, met_more, uses-all}
+use Rattle.std.proofs.Common.{◌&&◌, refl, ◌∙◌}
+use Rattle.std.proofs.lemmas.Result.{IfOk-weaker}
+use Rattle.model.specs.Limits.{same_reference, use_key, distinct_allowed}
+use Rattle.model.specs.Steps.{use_of}
+use Rattle.limits.proofs.Same.{then_ties, text_ties, over_fit}
 use Rattle.limits.proofs.surplus_use.Goals as goal
 
-pub loop-u-init : goal.loop-u-init
-loop-u-init c = c.new-walk.ensures Surplus
-
-pub loop-u-preserved : goal.loop-u-preserved
-loop-u-preserved c =
-    met_more use_entry Surplus c.args.uses.now c.loop-u.u-index _ c.loop-u.walk c.meet.new.self c.loop-u-test.true c.in_ok-meet.ensures c.loop-u.invariant
-
 pub returns : goal.returns
-returns c = uses-all c.args.uses.now c.loop-u.u-index c.loop-u.walk c.loop-u-test.false c.loop-u.invariant
+returns c =
+    IfOk-weaker c.least_surplus.result _ _ (λ p e. e ∙ over_fit _ same_reference (λ x. (x.from.now, x.name.now)) (λ x y. then_ties _ _ ∙ (λ i. text_ties x.from.now y.from.now i && text_ties x.name.now y.name.now i)) _ _ use_key use_of (λ _. refl) distinct_allowed c.args.uses.now) c.least_surplus.ensures
