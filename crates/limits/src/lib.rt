@@ -14,6 +14,7 @@ use places::{least_repeat, least_surplus};
 use std::alloc::{AllocError, Global};
 
 // The least place of a module that has a sibling of the same name before it.
+#[tactic(auto, using(crate::proofs::Fits::siblings_fit))]
 pub fn repeated_sibling<'a>(
     heap: Global,
     siblings: &[Sibling<'a>],
@@ -24,6 +25,7 @@ pub fn repeated_sibling<'a>(
 }
 
 // The least place of a reference with which a file has too many different ones.
+#[tactic(auto, using(crate::proofs::Fits::uses_fit))]
 pub fn surplus_use<'a>(heap: Global, uses: &[Use<'a>]) -> Result<Option<usize>, AllocError>
     ensures { IfOk result (λ p. p ≡ least (surplus_uses (map use_of uses.now))) }
 {
@@ -31,6 +33,7 @@ pub fn surplus_use<'a>(heap: Global, uses: &[Use<'a>]) -> Result<Option<usize>, 
 }
 
 // The least place of a declared name with which a file has too many different ones.
+#[tactic(auto, using(crate::proofs::Fits::declared_fits))]
 pub fn surplus_declared<'a>(
     heap: Global,
     declared: &[Declared<'a>],

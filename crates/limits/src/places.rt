@@ -47,10 +47,12 @@ pub(crate) fn least_surplus<E: Entry>(
     let mut least = None;
     for e in entries {
         // To insert moves up to as many keys as the set has, so one with too many takes in no more.
-        if seen.len() <= LIMIT {
+        let has_room = seen.len() <= LIMIT;
+        if has_room {
             seen.insert(e.key())?;
         }
-        if seen.len() > LIMIT {
+        let too_many = seen.len() > LIMIT;
+        if too_many {
             least = Some(sooner(e.place(), least));
         }
     }
