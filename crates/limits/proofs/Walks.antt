@@ -6,7 +6,7 @@ use Rattle.std.specs.Ordering.{eq_by_cmp, is_eq}
 use Rattle.std.specs.List.{list_any}
 use Rattle.std.specs.BTreeSet.{BTreeSet, IsEmpty, IsOrdered, Updates, contains, btree_set_len}
 use Rattle.model.specs.Limits.{Keyed, occurs, distinct, repeats, repeats_after, over, over_after}
-use Rattle.model.specs.Rules.{least, sooner}
+use Rattle.model.specs.Rules.{least, sooner, soonest}
 
 -- ---- the places
 
@@ -189,3 +189,8 @@ entry p k = record { place = p; key = k }
 -- the key that a set takes in is the entry's
 pub with_key : {K : Type 0} (P : Keyed K → Type 0) (p : ℕ) (k l : K) → k ≡ l → P (entry p k) → P (entry p l)
 with_key P p k l e h = subst (λ j. P (entry p j)) e h
+
+-- the sooner of a find and a place that shows
+pub soonest_place : (o : Option ℕ) (p : ℕ) → soonest o (Some p) ≡ Some (sooner p o)
+soonest_place None p = refl
+soonest_place (Some q) p = ap Some (omega arith)

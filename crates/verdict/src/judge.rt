@@ -3,7 +3,7 @@ ghost use Rattle.verdict.specs.Judged.{Judges};
 
 use crate::refusal::Refusal;
 use crate::rules::check;
-use model::{Audit, File, Listing, read_model};
+use model::{File, read_model};
 use std::alloc::Global;
 
 // The longest model, in bytes.
@@ -13,14 +13,10 @@ const LONGEST: usize = 16384;
 pub fn judge_model(heap: Global, model: &[u8]) -> Result<Vec<File>, Refusal>
     ensures { Judges model.now result }
 {
-    if model.len() == 0 {
+    if model.is_empty() || model.len() > LONGEST {
         return Err(Refusal::Size);
     }
-    if model.len() > LONGEST {
-        return Err(Refusal::Size);
-    }
-    let Audit { found, list } = read_model(heap, model)?;
-    let Listing { files, siblings } = list;
-    check(heap, model, found, siblings.as_slice(), files.as_slice())?;
-    Ok(files)
+    let audit = read_model(heap, model)?;
+    check(heap, model, &audit)?;
+    Ok(audit.list.files)
 }

@@ -1,12 +1,16 @@
-use Rattle.std.proofs.Common.{◌<◌, arith}
+use Rattle.std.proofs.Common.{◌<◌, length, sym, arith}
+use Rattle.std.proofs.lemmas.Bool.{eqb-false}
 use Rattle.std.proofs.lemmas.List.Elements.{All-from_get_or, recursion_from_All}
 use Rattle.verdict.proofs.Verdicts.{accepts, refuses}
 use Rattle.verdict.proofs.judge.judge_model.Goals as goal
 
 pub returns-in_err-check : goal.returns-in_err-check
 returns-in_err-check c =
-    refuses c.args.model.now (recursion_from_All (λ b. b < 256) c.args.model.now (All-from_get_or (λ b. b < 256) c.args.model.now 0 (λ i h. omega (arith, (c.type_inv.model i).fits)))) c.if-model-eq0.false c.if-model-gt-LONGEST.false c.in_ok-found.field-0.found c.in_ok-found.field-0.list c.in_ok-found.ensures c.as_slice.result.now c.as_slice-2.result.now c.as_slice.ensures.value c.as_slice-2.ensures.value c.from_residual-in_err-check.result _ c.from_residual-in_err-check.ensures.1 c.in_err-check.ensures
+    let bytes = recursion_from_All (λ b. b < 256) c.args.model.now (All-from_get_or (λ b. b < 256) c.args.model.now 0 (λ i h. omega (arith, (c.type_inv.model i).fits))) in
+    refuses c.args.model.now bytes (eqb-false (length c.args.model.now) 0 (sym c.if-is_empty.ensures)) c.if-model-gt-LONGEST.false c.in_ok-audit.audit.found c.in_ok-audit.audit.list c.in_ok-audit.ensures
+    c.from_residual-in_err-check.result _ c.from_residual-in_err-check.ensures.1 c.in_err-check.ensures
 
 pub returns : goal.returns
 returns c =
-    accepts c.args.model.now (recursion_from_All (λ b. b < 256) c.args.model.now (All-from_get_or (λ b. b < 256) c.args.model.now 0 (λ i h. omega (arith, (c.type_inv.model i).fits)))) c.if-model-eq0.false c.if-model-gt-LONGEST.false c.in_ok-found.field-0.found c.in_ok-found.field-0.list c.in_ok-found.ensures c.as_slice.result.now c.as_slice-2.result.now c.as_slice.ensures.value c.as_slice-2.ensures.value c.in_ok-check.ensures
+    let bytes = recursion_from_All (λ b. b < 256) c.args.model.now (All-from_get_or (λ b. b < 256) c.args.model.now 0 (λ i h. omega (arith, (c.type_inv.model i).fits))) in
+    accepts c.args.model.now bytes (eqb-false (length c.args.model.now) 0 (sym c.if-is_empty.ensures)) c.if-model-gt-LONGEST.false c.in_ok-audit.audit.found c.in_ok-audit.audit.list c.in_ok-audit.ensures c.in_ok-check.ensures

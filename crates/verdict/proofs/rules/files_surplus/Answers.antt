@@ -4,7 +4,7 @@ use Rattle.verdict.proofs.rules.files_surplus.Goals as goal
 
 pub loop-file-preserved : goal.loop-file-preserved
 loop-file-preserved c =
-    files-more c.args.model.now c.args.files.now c.loop-file.file-index _ c.loop-file.least c.in_ok-own.own c.soonest-least.result (omega arith) c.loop-file.invariant c.in_ok-own.ensures c.soonest-least.ensures
+    files-more c.args.model.now c.args.files.now c.loop-file.file-index _ c.loop-file.least c.in_ok-own.own c.sooner-least.result (omega arith) c.loop-file.invariant c.in_ok-own.ensures c.sooner-least.ensures
 
 pub returns : goal.returns
 returns c =
