@@ -13,7 +13,7 @@ use Rattle.std.specs.BTreeSet as bag
 use Rattle.std.proofs.lemmas.List.{map-append}
 use Rattle.model.specs.Tree.{Text}
 use Rattle.model.specs.Limits.{same_text_of, same_reference}
-use Rattle.references.specs.declared.reference.Reference.{Reference as ReferenceOf}
+use Rattle.model.specs.declared.uses.Reference.{Reference as ReferenceOf}
 use Rattle.references.specs.References.{pair_of}
 use Rattle.references.specs.Kept.{reference_cmp, text_cmp, by_bytes, by_texts}
 use Rattle.references.proofs.Kept.{key_ties}

@@ -8,7 +8,7 @@ use Rattle.std.proofs.lemmas.List.{take_more, drop_more, drop_all}
 use Rattle.std.proofs.lemmas.Bool.{false≢true}
 use Rattle.model.specs.Tree.{Text}
 use Rattle.model.specs.Limits.{same_reference, occurs}
-use Rattle.references.specs.declared.reference.Reference.{Reference as ReferenceOf}
+use Rattle.model.specs.declared.uses.Reference.{Reference as ReferenceOf}
 use Rattle.references.specs.References.{Reference, pair_of}
 use Rattle.references.specs.Kept.{reference_cmp, by_texts}
 use Rattle.references.proofs.Kept.{key_ties}

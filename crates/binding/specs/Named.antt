@@ -4,7 +4,7 @@ use Rattle.std.specs.Option.{option_map}
 use Rattle.std.specs.BTreeMap as tree
 use Rattle.model.specs.Tree.{Text}
 use Rattle.model.specs.Limits.{same_reference, occurs}
-use Rattle.references.specs.declared.reference.Reference.{Reference as ReferenceOf}
+use Rattle.model.specs.declared.uses.Reference.{Reference as ReferenceOf}
 use Rattle.references.specs.References.{Reference, pair_of}
 use Rattle.references.specs.Kept.{reference_cmp}
 use Rattle.binding.specs.declared.names.Names.{Names}

@@ -11,7 +11,7 @@ use Rattle.std.specs.BTreeMap as tree
 use Rattle.std.specs.BTreeSet as bag
 use Rattle.model.specs.Tree.{Text}
 use Rattle.naming.specs.Next.{next_name, following, proposal}
-use Rattle.references.specs.declared.reference.Reference.{Reference as ReferenceOf}
+use Rattle.model.specs.declared.uses.Reference.{Reference as ReferenceOf}
 use Rattle.references.specs.References.{pair_of}
 use Rattle.references.specs.Kept.{text_cmp, reference_cmp}
 use Rattle.binding.specs.declared.name.Name.{Name}

@@ -1,3 +1,3 @@
-pub mod Ties
-pub mod Meets
-pub mod Wide
+pub mod Walks
+pub mod Same
+pub mod Fits

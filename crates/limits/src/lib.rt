@@ -6,62 +6,39 @@ ghost use Rattle.model.specs.Rules.{least};
 ghost use Rattle.model.specs.Limits.{repeated_siblings, surplus_uses, surplus_declared_of};
 ghost use Rattle.model.specs.Steps.{held_of, use_of, declared_of};
 
-mod walk;
+mod entry;
+mod places;
 
 use model::{Declared, Listed, Use};
+use places::{least_repeat, least_surplus};
 use std::alloc::{AllocError, Global};
-use walk::{Key, Rule, Walk};
 
 // The least place of a module that has a sibling of the same name before it.
+#[tactic(auto, using(crate::proofs::Fits::siblings_fit))]
 pub fn repeated_sibling<'a>(
     heap: Global,
-    siblings: &[Listed<'a>],
+    modules: &[Listed<'a>],
 ) -> Result<Option<usize>, AllocError>
-    ensures { IfOk result (λ p. p ≡ least (repeated_siblings (map held_of siblings.now))) }
+    ensures { IfOk result (λ p. p ≡ least (repeated_siblings (map held_of modules.now))) }
 {
-    let mut walk = Walk::new(heap);
-    for s in siblings {
-        let key = Key {
-            group: s.file.holder,
-            from: b"",
-            name: s.name,
-        };
-        walk.meet(Rule::Repeat, s.file.place, key)?;
-    }
-    Ok(walk.least)
+    least_repeat(heap, modules)
 }
 
 // The least place of a reference with which a file has too many different ones.
+#[tactic(auto, using(crate::proofs::Fits::uses_fit))]
 pub fn surplus_use<'a>(heap: Global, uses: &[Use<'a>]) -> Result<Option<usize>, AllocError>
     ensures { IfOk result (λ p. p ≡ least (surplus_uses (map use_of uses.now))) }
 {
-    let mut walk = Walk::new(heap);
-    for u in uses {
-        let key = Key {
-            group: None,
-            from: u.from,
-            name: u.name,
-        };
-        walk.meet(Rule::Surplus, u.place, key)?;
-    }
-    Ok(walk.least)
+    least_surplus(heap, uses)
 }
 
 // The least place of a declared name with which a file has too many different ones.
+#[tactic(auto, using(crate::proofs::Fits::declared_fits))]
 pub fn surplus_declared<'a>(
     heap: Global,
     declared: &[Declared<'a>],
 ) -> Result<Option<usize>, AllocError>
     ensures { IfOk result (λ p. p ≡ least (surplus_declared_of (map declared_of declared.now))) }
 {
-    let mut walk = Walk::new(heap);
-    for d in declared {
-        let key = Key {
-            group: None,
-            from: b"",
-            name: d.name,
-        };
-        walk.meet(Rule::Surplus, d.place, key)?;
-    }
-    Ok(walk.least)
+    least_surplus(heap, declared)
 }

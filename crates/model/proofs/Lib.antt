@@ -17,3 +17,4 @@ pub mod Soonest
 pub mod Answered
 pub mod Sized
 pub mod Settling
+pub mod Leasts

@@ -113,6 +113,11 @@ abbrev pub sooner : ℕ → Option ℕ → ℕ
 sooner p None = p
 sooner p (Some q) = min p q
 
+-- the sooner of two places that may not be there
+abbrev pub soonest : Option ℕ → Option ℕ → Option ℕ
+soonest None x = x
+soonest (Some p) x = Some (sooner p x)
+
 abbrev pub least : List ℕ → Option ℕ
 least [] = None
 least (p ∷ ps) = Some (sooner p (least ps))

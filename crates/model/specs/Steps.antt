@@ -85,7 +85,7 @@ Gathers before after list listed (Err Memory) one = Unit {0}
 
 -- what a reference and a declared name of the code stand for
 abbrev pub use_of : UseOf → Use
-use_of u = use' u.place u.from.now u.name.now
+use_of u = use' u.place u.reference.from.now u.reference.name.now
 
 abbrev pub declared_of : DeclaredOf → Declared
 declared_of d = record { place = d.place; name = d.name.now }

@@ -10,6 +10,7 @@ mod findings;
 mod laws;
 pub mod maps;
 mod modules;
+mod places;
 mod read;
 mod reader;
 mod uses;
@@ -20,5 +21,6 @@ pub use fields::{ClassField, Field, Fields, FunctionField, ModuleField, ValueFie
 pub use files::{File, Listed, Listing};
 pub use findings::Findings;
 pub use laws::{faults_for_good, faults_in_time, reads_exactly};
+pub use places::sooner;
 pub use read::{Audit, DEEPEST, read_model};
-pub use uses::{Declared, Use};
+pub use uses::{Declared, Reference, Use};

@@ -8,7 +8,7 @@ use Rattle.std.specs.Cmp.{IsTotalOrder, nat_cmp_total, on_total, then_total}
 use Rattle.std.specs.Cmp.Lexicographic.{slice_cmp, lists_total}
 use Rattle.std.specs.BTreeSet.{IsOrdered, contains}
 use Rattle.model.specs.Limits.{occurs, same_text_of}
-use Rattle.references.specs.declared.reference.Reference.{Reference as ReferenceOf}
+use Rattle.model.specs.declared.uses.Reference.{Reference as ReferenceOf}
 
 -- the set holds a key where these values, compared by e, have what f reads off the key
 pub record Keeps {K B : Type 0} {R : K → K → Ordering} (o : IsTotalOrder R) (f : K → B) (e : B → B → Bool) (bs : List B) (s : BTreeSet K) : Type 0 where

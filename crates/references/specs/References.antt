@@ -6,7 +6,7 @@ use Rattle.std.specs.Cmp.Lexicographic.{slice_cmp}
 use Rattle.model.specs.Uses.{Use, Declared}
 use Rattle.model.specs.Limits.{occurs, same_text_of, same_reference}
 use Rattle.paths.specs.Paths.{first_part}
-use Rattle.references.specs.declared.reference.Reference.{Reference as ReferenceOf}
+use Rattle.model.specs.declared.uses.Reference.{Reference as ReferenceOf}
 
 -- a module and its attribute
 abbrev pub Reference : Type 0

@@ -3,8 +3,6 @@
 ghost use Rattle.references.specs.Laws.{ReferencesListed};
 
 /// Each reference of the uses once, in order; and no other list is so.
-pub fn references_listed() -> u8
+pub fn references_listed()
     ensures { ReferencesListed }
-{
-    0
-}
+{}

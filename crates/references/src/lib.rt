@@ -8,6 +8,7 @@ mod reference;
 mod root;
 
 pub use laws::references_listed;
+pub use model::Reference;
 pub use places::{first_use, undeclared_use};
-pub use reference::{Reference, ascending};
+pub use reference::ascending;
 pub use root::split_root;

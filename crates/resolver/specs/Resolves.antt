@@ -3,7 +3,7 @@ use Rattle.std.specs.Prelude.{◌≡◌, ℕ, List, Ok, Err, Result}
 use Rattle.model.specs.declared.files.File.{File}
 use Rattle.model.specs.Tree.{Text}
 use Rattle.model.specs.Uses.{Use}
-use Rattle.references.specs.declared.reference.Reference.{Reference as ReferenceOf}
+use Rattle.model.specs.declared.uses.Reference.{Reference as ReferenceOf}
 use Rattle.references.specs.References.{pair_of, references}
 use Rattle.binding.specs.declared.names.Names.{Names}
 use Rattle.binding.specs.Named.{bindings_held, name_held, name_among}

@@ -20,7 +20,7 @@ use Rattle.walk.proofs.Reaching.{files-reached}
 use Rattle.chains.specs.Chains.{chains, own_names, own_in}
 use Rattle.chains.proofs.Reaching.{modules-reached, chains-many, entries-many}
 use Rattle.paths.specs.Paths.{join}
-use Rattle.references.specs.declared.reference.Reference.{Reference as ReferenceOf}
+use Rattle.model.specs.declared.uses.Reference.{Reference as ReferenceOf}
 use Rattle.references.specs.References.{Reference, pair_of, references, rest_of}
 use Rattle.binding.specs.declared.names.Names.{Names}
 use Rattle.binding.specs.Binding.{Binding, name_of, target_of}

@@ -3,10 +3,9 @@ use Rattle.std.proofs.Common.{◌≡◌, ℕ, ◌+◌, ◌≤◌, List, [], ◌�
 use Rattle.std.specs.declared.alloc.Global.{Global}
 use Rattle.std.proofs.lemmas.Result.{err_from_is_err_and}
 use Rattle.model.specs.declared.files.File.{File}
-use Rattle.model.specs.declared.files.Listed.{Listed}
 use Rattle.model.specs.declared.files.Listing.{Listing}
 use Rattle.model.specs.declared.findings.Findings.{Findings}
-use Rattle.model.specs.Steps.{file_of, held_of, gathered}
+use Rattle.model.specs.Steps.{file_of, gathered}
 use Rattle.model.specs.Tree.{Module, Modules, pymodule, no_module, add_module}
 use Rattle.model.specs.Read.{Out, read, fault, model}
 use Rattle.model.specs.Rules.{least, places_of, broken_name, module_items}
@@ -18,7 +17,8 @@ use Rattle.model.proofs.Sized.{within_size}
 use Rattle.walk.specs.Total.{Own, own_in}
 use Rattle.walk.specs.Reached.{own_of}
 use Rattle.walk.proofs.Reaching.{files-reached}
-use Rattle.verdict.specs.Judged.{soonest, root_named_of, own_surplus, files_surplus_of, file_place, surplus_in, verdict_by, files_of, Judges}
+use Rattle.model.specs.Rules.{soonest}
+use Rattle.verdict.specs.Judged.{root_named_of, own_surplus, files_surplus_of, file_place, surplus_in, verdict_by, files_of, Judges}
 use Rattle.verdict.specs.declared.refusal.Refusal.{Refusal}
 use Rattle.verdict.specs.Answers.{Says}
 use Rattle.verdict.proofs.Roots.{soonest_append}
@@ -76,18 +76,15 @@ verdict_by_lem bs b g z l h =
     let x = out_same bs b g (model bs) refl h in
     (within_size bs z l ∙ x.0, x.1)
 
-module _ (bs : List ℕ) (b : Bytes bs) (z : length bs ≡ 0 → ⊥) (l : length bs ≤ 16384) (found : Findings) (list : Listing) (h : map_out summary (model bs) ≡ read (gathered found list) []) (ss : List Listed) (fs : List File) (s : ss ≡ vec_items list.modules) (f : fs ≡ map file_of (vec_items list.modules)) where
-  same-gathered : verdict_by bs (record { found = found; files = fs; siblings = map held_of ss }) ≡ verdict_by bs (gathered found list)
-  same-gathered = rw (s, f) refl
-
-  pub accepts : verdict_by bs (record { found = found; files = fs; siblings = map held_of ss }) ≡ accepted → (verdict bs ≡ accepted) × (fs ≡ files_of (model bs))
+module _ (bs : List ℕ) (b : Bytes bs) (z : length bs ≡ 0 → ⊥) (l : length bs ≤ 16384) (found : Findings) (list : Listing) (h : map_out summary (model bs) ≡ read (gathered found list) []) where
+  pub accepts : verdict_by bs (gathered found list) ≡ accepted → (verdict bs ≡ accepted) × (map file_of (vec_items list.modules) ≡ files_of (model bs))
   accepts e =
       let v = verdict_by_lem bs b (gathered found list) z l h in
-      (v.0 ∙ sym same-gathered ∙ e, f ∙ sym v.1)
+      (v.0 ∙ e, sym v.1)
 
   -- the exit of a `?` on a rule that is broken
-  pub refuses : (r : Result (Vec File Global) Refusal) (e : Refusal) → IsErrAnd r (λ y. y ≡ e) → Says (verdict_by bs (record { found = found; files = fs; siblings = map held_of ss })) e → Judges bs r
+  pub refuses : (r : Result (Vec File Global) Refusal) (e : Refusal) → IsErrAnd r (λ y. y ≡ e) → Says (verdict_by bs (gathered found list)) e → Judges bs r
   refuses r e d q =
       let v = verdict_by_lem bs b (gathered found list) z l h in
       let p = err_from_is_err_and r d in
-      rw (p.1, p.2) (subst (λ (x : Verdict). Says x e) (same-gathered ∙ sym v.0) q)
+      rw (p.1, p.2) (subst (λ (x : Verdict). Says x e) (sym v.0) q)

@@ -1,10 +1,10 @@
 -- The verdict on a model as the code comes to it, from what reading it has gathered, and what judging a model answers.
-use Rattle.std.specs.Prelude.{◌≡◌, ℕ, cond, List, [], ◌∷◌, ◌++◌, map, drop, Some, None, Ok, Err, vec_items, Option, Result, Vec}
+use Rattle.std.specs.Prelude.{◌≡◌, ℕ, cond, List, [], ◌∷◌, ◌++◌, map, drop, None, Ok, Err, vec_items, Result, Vec}
 use Rattle.std.specs.declared.alloc.Global.{Global}
 use Rattle.model.specs.declared.files.File.{File}
 use Rattle.model.specs.Tree.{Module}
 use Rattle.model.specs.Read.{Out, read, fault, model}
-use Rattle.model.specs.Rules.{least, sooner}
+use Rattle.model.specs.Rules.{least, soonest}
 use Rattle.model.specs.Files.{Held, entries}
 use Rattle.model.specs.Uses.{builtins, collected, declarations}
 use Rattle.model.specs.Limits.{same_text_of, repeated_siblings, surplus_uses, surplus_declared_of}
@@ -13,11 +13,6 @@ use Rattle.model.specs.Audit.{Gathered}
 use Rattle.walk.specs.Total.{Own, own_in}
 use Rattle.verdict.specs.declared.refusal.Refusal.{Refusal}
 use Rattle.verdict.specs.Answers.{Says}
-
--- the sooner of two finds
-abbrev pub soonest : Option ℕ → Option ℕ → Option ℕ
-soonest None x = x
-soonest (Some p) x = Some (sooner p x)
 
 -- the first module is the root
 abbrev pub root_named_of : List Held → List ℕ

@@ -1,122 +1,93 @@
 // The rules over what reading has gathered.
 ghost use Rattle.std.specs.Prelude.{◌≡◌, map as list_map, drop, IfOk};
 ghost use Rattle.model.specs.Rules.{least};
-ghost use Rattle.model.specs.Limits.{same_text_of};
-ghost use Rattle.model.specs.Uses.{builtins};
-ghost use Rattle.model.specs.Steps.{held_of};
+ghost use Rattle.model.specs.Steps.{file_of, gathered, held_of};
 ghost use Rattle.walk.specs.Total.{own_in};
-ghost use Rattle.verdict.specs.Judged.{soonest as soonest_of, root_named_of, own_surplus, files_surplus_of, file_place, surplus_in, Checks};
+ghost use Rattle.verdict.specs.Judged.{root_named_of, own_surplus, files_surplus_of, file_place, surplus_in, Checks};
 ghost use Rattle.model.specs.Verdict.{modules_allowed};
 
 use crate::refusal::Refusal;
-use model::{File, Findings, Listed};
+use limits::{repeated_sibling, surplus_declared, surplus_use};
+use model::{Audit, File, Listed, sooner};
 use std::alloc::{AllocError, Global};
+use walk::collect;
 
 // So many modules are allowed.
 const MODULES: usize = 128;
 
-fn soonest(a: Option<usize>, b: Option<usize>) -> Option<usize>
-    ensures { result ≡ soonest_of a b }
-{
-    match (a, b) {
-        (None, other) => other,
-        (Some(p), None) => Some(p),
-        (Some(p), Some(q)) => Some(p.min(q)),
-    }
-}
-
-fn is_builtins(name: &[u8]) -> bool
-    ensures { result ≡ same_text_of name.now builtins }
-{
-    name == b"builtins".as_slice()
-}
-
 // The root where it is called builtins, which is the module of Python's own names.
-fn root_named<'a>(modules: &[Listed<'a>]) -> Option<usize>
+fn root_named(modules: &[Listed<'_>]) -> Option<usize>
     ensures { result ≡ least (root_named_of (list_map held_of modules.now)) }
 {
-    if modules.len() == 0 {
-        return None;
+    match modules.first() {
+        Some(root) if root.name == b"builtins".as_slice() => Some(root.file.place),
+        _ => None,
     }
-    let root = modules[0];
-    if is_builtins(root.name) {
-        return Some(root.file.place);
-    }
-    None
 }
 
 // The least place at which this file declares or collects too much.
 fn file_surplus(heap: Global, model: &[u8], file: File) -> Result<Option<usize>, AllocError>
     ensures { IfOk result (λ p. p ≡ least (own_surplus (own_in model.now file))) }
 {
-    let collected = walk::collect(heap, model, file)?;
-    let declared = limits::surplus_declared(heap, collected.declared.as_slice())?;
-    let uses = limits::surplus_use(heap, collected.uses.as_slice())?;
-    Ok(soonest(declared, uses))
+    let collected = collect(heap, model, file)?;
+    let declared = surplus_declared(heap, collected.declared.as_slice())?;
+    let uses = surplus_use(heap, collected.uses.as_slice())?;
+    Ok(sooner(declared, uses))
 }
 
-fn files_surplus(heap: Global, model: &[u8], files: &[File]) -> Result<Option<usize>, AllocError>
-    ensures { IfOk result (λ p. p ≡ least (files_surplus_of model.now files.now)) }
+fn files_surplus(
+    heap: Global,
+    model: &[u8],
+    modules: &[Listed<'_>],
+) -> Result<Option<usize>, AllocError>
+    ensures { IfOk result (λ p. p ≡ least (files_surplus_of model.now (list_map file_of modules.now))) }
 {
     let mut least = None;
-    for file in files {
-        let own = file_surplus(heap, model, *file)?;
-        least = soonest(least, own);
+    for module in modules {
+        let own = file_surplus(heap, model, module.file)?;
+        least = sooner(least, own);
     }
     Ok(least)
 }
 
-fn least_place(files: &[File]) -> Option<usize>
-    ensures { result ≡ least (list_map file_place files.now) }
-{
-    let mut least = None;
-    for file in files {
-        least = soonest(least, Some(file.place));
-    }
-    least
-}
-
 // The least place of a module too many.
-fn surplus_module(files: &[File]) -> Option<usize>
-    ensures { result ≡ least (drop modules_allowed (list_map file_place files.now)) }
+fn surplus_module(modules: &[Listed<'_>]) -> Option<usize>
+    ensures { result ≡ least (drop modules_allowed (list_map file_place (list_map file_of modules.now))) }
 {
-    if files.len() <= MODULES {
-        return None;
-    }
-    least_place(&files[MODULES..])
+    modules
+        .iter()
+        .skip(MODULES)
+        .map(|module| module.file.place)
+        .min()
 }
 
-fn surplus(heap: Global, model: &[u8], files: &[File]) -> Result<Option<usize>, AllocError>
-    ensures { IfOk result (λ p. p ≡ least (surplus_in model.now files.now)) }
+fn surplus(heap: Global, model: &[u8], modules: &[Listed<'_>]) -> Result<Option<usize>, AllocError>
+    ensures { IfOk result (λ p. p ≡ least (surplus_in model.now (list_map file_of modules.now))) }
 {
-    let modules = surplus_module(files);
-    let own = files_surplus(heap, model, files)?;
-    Ok(soonest(modules, own))
+    let last = surplus_module(modules);
+    let own = files_surplus(heap, model, modules)?;
+    Ok(sooner(last, own))
 }
 
 // Whether what reading has gathered breaks a rule: the first number that shows, at its least place.
-pub(crate) fn check<'a>(
-    heap: Global,
-    model: &[u8],
-    found: Findings,
-    modules: &[Listed<'a>],
-    files: &[File],
-) -> Result<(), Refusal>
-    ensures { Checks model.now (record { found = found; files = files.now; siblings = list_map held_of modules.now }) result }
+pub(crate) fn check(heap: Global, model: &[u8], audit: &Audit<'_>) -> Result<(), Refusal>
+    ensures { Checks model.now (gathered audit.now.found audit.now.list) result }
 {
-    if let Some(place) = soonest(root_named(modules), found.names) {
+    let found = audit.found;
+    let modules = audit.list.modules.as_slice();
+    if let Some(place) = sooner(root_named(modules), found.names) {
         return Err(Refusal::Name(place));
     }
     if let Some(place) = found.values {
         return Err(Refusal::Value(place));
     }
-    if let Some(place) = limits::repeated_sibling(heap, modules)? {
+    if let Some(place) = repeated_sibling(heap, modules)? {
         return Err(Refusal::Sibling(place));
     }
     if let Some(place) = found.empty {
         return Err(Refusal::Empty(place));
     }
-    if let Some(place) = surplus(heap, model, files)? {
+    if let Some(place) = surplus(heap, model, modules)? {
         return Err(Refusal::Limit(place));
     }
     Ok(())

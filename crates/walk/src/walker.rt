@@ -13,7 +13,7 @@ use model::maps::{
     FUNCTION_DECORATORS, FUNCTION_KEYWORD, FUNCTION_KWARG, FUNCTION_POSITIONAL, FUNCTION_REGULAR,
     FUNCTION_RETURNS, FUNCTION_VARARG, VALUE,
 };
-use model::{Declared, Expression, Use};
+use model::{Declared, Expression, Reference, Use};
 use std::alloc::AllocError;
 
 #[derive(Drop)]
@@ -26,7 +26,8 @@ impl<'a> Walker<'a> {
     fn note(&mut self, place: usize, from: &'a [u8], name: &'a [u8]) -> Result<(), AllocError>
         ensures { OnOk result (Noted place from.now name.now self.old self.new) }
     {
-        self.uses.push(Use { place, from, name })?;
+        let reference = Reference { from, name };
+        self.uses.push(Use { place, reference })?;
         Ok(())
     }
 

@@ -3,7 +3,7 @@ use lib.ListN.{get_or-map}
 use lib.ListN.{length-map}
 use Rattle.std.specs.Map.{lookup}
 use Rattle.std.specs.Ordering.{is_eq}
-use Rattle.references.specs.declared.reference.Reference.{Reference as ReferenceOf}
+use Rattle.model.specs.declared.uses.Reference.{Reference as ReferenceOf}
 use Rattle.references.specs.References.{pair_of}
 use Rattle.references.specs.Kept.{reference_cmp}
 use Rattle.binding.proofs.Declaring.{declared-sound}

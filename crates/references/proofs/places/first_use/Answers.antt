@@ -1,19 +1,13 @@
-use Rattle.std.proofs.Common.{true, false, Some, ap, ◌∙◌}
+use Rattle.std.proofs.Common.{rules, tests}
+use Rattle.std.proofs.lemmas.Iterator.{YieldsList-from_slice, YieldsList-from_map}
+use Rattle.std.proofs.lemmas.Iterator.Consumers.{YieldsList-at, YieldsList-from_filter, min_from_yields_List}
 use Rattle.model.specs.Limits.{same_reference}
+use Rattle.model.specs.Steps.{use_of}
 use Rattle.references.specs.References.{pair_of, reference_of}
-use Rattle.references.proofs.Firsts.{first_more, first-all}
+use Rattle.references.proofs.Firsts.{least_kept}
 use Rattle.references.proofs.places.first_use.Goals as goal
-use Rattle.references.proofs.places.first_use.Goals.{then-refers, else-refers}
-
-pub loop-u-preserved : goal.loop-u-preserved
-loop-u-preserved c =
-    elim c.if-refers.branch [
-      | then-refers w ↦ first_more (λ u. same_reference (reference_of u) (pair_of c.args.reference)) c.args.uses.now c.loop-u.u-index _ c.loop-u.first c.if-refers.first c.refers.result true
-          c.loop-u-test.true c.refers.ensures w.if-refers.true (w.first-is ∙ ap Some w.sooner.ensures) c.loop-u.invariant
-      | else-refers w ↦ first_more (λ u. same_reference (reference_of u) (pair_of c.args.reference)) c.args.uses.now c.loop-u.u-index _ c.loop-u.first c.if-refers.first c.refers.result false
-          c.loop-u-test.true c.refers.ensures w.if-refers.false w.first-is c.loop-u.invariant
-    ]
 
 pub returns : goal.returns
 returns c =
-    first-all (λ u. same_reference (reference_of u) (pair_of c.args.reference)) c.args.uses.now c.loop-u.u-index c.loop-u.first c.loop-u-test.false c.loop-u.invariant
+    least_kept (λ u. same_reference (reference_of u) (pair_of c.args.reference)) c.args.uses.now c.min.result
+    (min_from_yields_List _ _ c.min.ensures.ran (YieldsList-from_map _ (λ u. u.place) (YieldsList-at c.map-places.ensures.source (YieldsList-from_filter _ (λ u. same_reference (reference_of (use_of u)) (pair_of c.args.reference)) (YieldsList-at c.filter.ensures.source (YieldsList-from_slice c.args.uses.now cc)) c.filter.ensures.closure (λ x b q k. search (rules, tests)))) c.map-places.ensures.closure (λ x r q k. search (rules, tests))))

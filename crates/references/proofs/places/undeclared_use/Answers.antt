@@ -1,20 +1,18 @@
-use Rattle.std.proofs.Common.{true, false, map, Some, ap, ◌∙◌}
-use Rattle.model.specs.Steps.{declared_of}
+use Rattle.std.proofs.Common.{map, Ok, rules, tests}
+use Rattle.std.specs.BTreeSet.{IsFromIterResult}
+use Rattle.std.proofs.lemmas.Iterator.{YieldsList-from_slice, YieldsList-from_map}
+use Rattle.std.proofs.lemmas.Iterator.Adapters.{fact_from_collect}
+use Rattle.std.proofs.lemmas.Iterator.Consumers.{YieldsList-at, YieldsList-from_filter, min_from_yields_List}
+use Rattle.model.specs.Steps.{declared_of, use_of}
+use Rattle.references.specs.Kept.{text_cmp}
 use Rattle.references.specs.References.{lacks, name_of}
-use Rattle.references.proofs.Firsts.{first_more, first-all}
+use Rattle.references.proofs.Firsts.{least_kept}
+use Rattle.references.proofs.Kept.{kept_names}
 use Rattle.references.proofs.places.undeclared_use.Goals as goal
-use Rattle.references.proofs.places.undeclared_use.Goals.{then-is_undeclared, else-is_undeclared}
-
-pub loop-u-preserved : goal.loop-u-preserved
-loop-u-preserved c =
-    let names = map name_of (map declared_of c.args.declared.now) in
-    elim c.if-is_undeclared.branch [
-      | then-is_undeclared w ↦ first_more (lacks c.args.own.now names) c.args.uses.now c.loop-u.u-index _ c.loop-u.first c.if-is_undeclared.first c.is_undeclared.result true
-          c.loop-u-test.true (c.is_undeclared.ensures _ c.in_ok-names.ensures) w.if-is_undeclared.true (w.first-is ∙ ap Some w.sooner.ensures) c.loop-u.invariant
-      | else-is_undeclared w ↦ first_more (lacks c.args.own.now names) c.args.uses.now c.loop-u.u-index _ c.loop-u.first c.if-is_undeclared.first c.is_undeclared.result false
-          c.loop-u-test.true (c.is_undeclared.ensures _ c.in_ok-names.ensures) w.if-is_undeclared.false w.first-is c.loop-u.invariant
-    ]
 
 pub returns : goal.returns
 returns c =
-    first-all (lacks c.args.own.now (map name_of (map declared_of c.args.declared.now))) c.args.uses.now c.loop-u.u-index c.loop-u.first c.loop-u-test.false c.loop-u.invariant
+    let names = map name_of (map declared_of c.args.declared.now) in
+    let kept = kept_names c.args.declared.now c.in_ok-names.names (fact_from_collect {E = Unit {0}} (IsFromIterResult text_cmp) (Ok c.in_ok-names.names) c.in_ok-names.ensures.ran (YieldsList-from_map _ (λ d. d.name) (YieldsList-at c.map.ensures.source (YieldsList-from_slice c.args.declared.now cc)) c.map.ensures.closure (λ x r q k. search (rules, tests)))) in
+    least_kept (lacks c.args.own.now names) c.args.uses.now c.min.result
+    (min_from_yields_List _ _ c.min.ensures.ran (YieldsList-from_map _ (λ u. u.place) (YieldsList-at c.map-2.ensures.source (YieldsList-from_filter _ (λ u. lacks c.args.own.now names (use_of u)) (YieldsList-at c.filter.ensures.source (YieldsList-from_slice c.args.uses.now cc)) c.filter.ensures.closure (λ x b q k. search (rules, tests, kept)))) c.map-2.ensures.closure (λ x r q k. search (rules, tests))))

@@ -1,11 +1,13 @@
-use Rattle.verdict.proofs.Roots.{no_root, root_is}
+use Rattle.std.proofs.Common.{◌∙◌, ap}
+use Rattle.std.specs.Str.{bytes_eq}
+use Rattle.model.specs.Uses.{builtins}
+use Rattle.verdict.proofs.Roots.{root_is, same_bytes}
 use Rattle.verdict.proofs.rules.root_named.Goals as goal
 
-pub returns-then-modules-eq0 : goal.returns-then-modules-eq0
-returns-then-modules-eq0 c = no_root c.args.modules.now c.if-modules-eq0.true
+pub returns-in-Some : goal.returns-in-Some
+returns-in-Some c =
+    root_is c.args.modules.now c.in-Some.root.now _ c.in-Some.ensures.value (c.if-eq.ensures ∙ ap (bytes_eq c.in-Some.root.now.name.now) c.as_slice.ensures ∙ same_bytes c.in-Some.root.now.name.now builtins)
 
-pub returns-then-is_builtins : goal.returns-then-is_builtins
-returns-then-is_builtins c = root_is c.args.modules.now _ _ c.if-modules-eq0.false c.if-is_builtins.ensures
-
-pub returns : goal.returns
-returns c = root_is c.args.modules.now _ _ c.if-modules-eq0.false c.if-is_builtins.ensures
+pub returns-in_default : goal.returns-in_default
+returns-in_default c =
+    root_is c.args.modules.now c.in-Some.root.now _ c.in-Some.ensures.value (c.if-eq.ensures ∙ ap (bytes_eq c.in-Some.root.now.name.now) c.as_slice.ensures ∙ same_bytes c.in-Some.root.now.name.now builtins)
