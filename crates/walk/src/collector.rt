@@ -32,15 +32,14 @@ fn declare<'a>(declared: &mut Vec<Declared<'a>>, one: Declared<'a>) -> Result<()
 fn own_classes<'a>(
     walker: &mut Walker<'a>,
     declared: &mut Vec<Declared<'a>>,
-    end: usize,
     stands: bool,
     depth: u8,
 ) -> Result<(), AllocError>
-    ensures { OnOk result (Owns own_classes_put (classes_at end depth stands) walker.old walker.new declared.old.items declared.new.items) }
+    ensures { OnOk result (Owns own_classes_put (classes_at walker.old.at.end depth stands) walker.old walker.new declared.old.items declared.new.items) }
 {
     let n = walker.at.count(stands);
     for _ in 0..n {
-        let class = walker.walk_class(end, depth)?;
+        let class = walker.walk_class(depth)?;
         declare(declared, class)?;
     }
     Ok(())
@@ -49,15 +48,14 @@ fn own_classes<'a>(
 fn own_functions<'a>(
     walker: &mut Walker<'a>,
     declared: &mut Vec<Declared<'a>>,
-    end: usize,
     stands: bool,
     depth: u8,
 ) -> Result<(), AllocError>
-    ensures { OnOk result (Owns own_functions_put (functions_at end depth stands) walker.old walker.new declared.old.items declared.new.items) }
+    ensures { OnOk result (Owns own_functions_put (functions_at walker.old.at.end depth stands) walker.old walker.new declared.old.items declared.new.items) }
 {
     let n = walker.at.count(stands);
     for _ in 0..n {
-        let function = walker.walk_function(end, depth)?;
+        let function = walker.walk_function(depth)?;
         declare(declared, function)?;
     }
     Ok(())
@@ -66,15 +64,14 @@ fn own_functions<'a>(
 fn own_attributes<'a>(
     walker: &mut Walker<'a>,
     declared: &mut Vec<Declared<'a>>,
-    end: usize,
     stands: bool,
     depth: u8,
 ) -> Result<(), AllocError>
-    ensures { OnOk result (Owns own_attributes_put (attributes_at end depth stands) walker.old walker.new declared.old.items declared.new.items) }
+    ensures { OnOk result (Owns own_attributes_put (attributes_at walker.old.at.end depth stands) walker.old walker.new declared.old.items declared.new.items) }
 {
     let n = walker.at.count(stands);
     for _ in 0..n {
-        let attribute = walker.walk_attribute(end, depth)?;
+        let attribute = walker.walk_attribute(depth)?;
         declare(declared, attribute)?;
     }
     Ok(())
@@ -84,7 +81,6 @@ fn own_attributes<'a>(
 pub fn collect<'a>(heap: Global, model: &'a [u8], file: File) -> Result<Collected<'a>, AllocError>
     ensures { IfOk result (λ v. Collects model.now file v) }
 {
-    let end = model.len();
     let map = Cursor::at(model, file.place).number();
     let mut declared = Vec::new(heap);
     let mut walker = Walker {
@@ -94,21 +90,18 @@ pub fn collect<'a>(heap: Global, model: &'a [u8], file: File) -> Result<Collecte
     own_classes(
         &mut walker,
         &mut declared,
-        end,
         stands(map, MODULE_CLASSES),
         DEEPEST,
     )?;
     own_functions(
         &mut walker,
         &mut declared,
-        end,
         stands(map, MODULE_FUNCTIONS),
         DEEPEST,
     )?;
     own_attributes(
         &mut walker,
         &mut declared,
-        end,
         stands(map, MODULE_ATTRIBUTES),
         DEEPEST,
     )?;

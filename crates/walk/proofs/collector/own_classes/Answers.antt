@@ -9,5 +9,5 @@ use Rattle.model.specs.Uses.{class_declared}
 
 pub loop-preserved : goal.loop-preserved
 loop-preserved c =
-    sofar_more no_class add_class (one_class c.args.end c.args.depth) (own_put class_put class_declared) own_classes_put (λ a l s. refl) c.count-n.result c.loop.counter _ _ _ _ _ _ (omega arith) c.loop.invariant c.in_ok-class.ensures.rest
-    (own-step class_put class_declared (one_class c.args.end c.args.depth (left c.loop.walker)).0 (uses_of c.loop.walker) _ _ _ _ c.in_ok-class.ensures.uses c.in_ok-declare.ensures c.in_ok-class.ensures.declared)
+    sofar_more no_class add_class (λ end. one_class end c.args.depth) (own_put class_put class_declared) own_classes_put (λ a l s. refl) c.count-n.result c.loop.counter _ _ _ _ _ _ _ _ _ (omega arith) c.loop.invariant c.in_ok-class.ensures.end c.in_ok-class.ensures.rest
+    (own-step class_put class_declared (one_class c.loop.walker.at.end c.args.depth (left c.loop.walker)).0 (uses_of c.loop.walker) _ _ _ _ c.in_ok-class.ensures.uses c.in_ok-declare.ensures c.in_ok-class.ensures.declared)

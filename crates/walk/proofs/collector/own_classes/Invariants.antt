@@ -1,4 +1,4 @@
-use Rattle.std.proofs.Common.{vec_items}
+use Rattle.std.proofs.Common.{◌≡◌, vec_items}
 use Rattle.walk.specs.Total.{rows, one_class}
 use Rattle.walk.specs.Puts.{own_classes_put}
 use Rattle.walk.specs.Walks.{Sofar, left, gathered}
@@ -7,4 +7,5 @@ use Rattle.model.specs.Tree.{no_class, add_class}
 
 abbrev pub invariant-loop : goal.invariant-loop
 invariant-loop l =
-    Sofar own_classes_put (rows no_class add_class (one_class l.end l.depth)) l.n l.counter (left l.initial.walker) (gathered l.initial.walker (vec_items l.initial.declared)) (left l.walker) (gathered l.walker (vec_items l.declared))
+    (l.walker.at.end ≡ l.initial.walker.at.end)
+    × Sofar own_classes_put (rows no_class add_class (one_class l.initial.walker.at.end l.depth)) l.n l.counter (left l.initial.walker) (gathered l.initial.walker (vec_items l.initial.declared)) (left l.walker) (gathered l.walker (vec_items l.declared))

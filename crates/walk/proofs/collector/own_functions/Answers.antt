@@ -7,5 +7,5 @@ use Rattle.walk.proofs.collector.own_functions.Goals as goal
 
 pub loop-preserved : goal.loop-preserved
 loop-preserved c =
-    sofar_more [] ◌∷◌ (function c.args.end c.args.depth) (own_put function_put function_declared) own_functions_put (λ a l s. refl) c.count-n.result c.loop.counter _ _ _ _ _ _ (omega arith) c.loop.invariant c.in_ok-function.ensures.rest
-    (own-step function_put function_declared (function c.args.end c.args.depth (left c.loop.walker)).0 (uses_of c.loop.walker) _ _ _ _ c.in_ok-function.ensures.uses c.in_ok-declare.ensures c.in_ok-function.ensures.declared)
+    sofar_more [] ◌∷◌ (λ end. function end c.args.depth) (own_put function_put function_declared) own_functions_put (λ a l s. refl) c.count-n.result c.loop.counter _ _ _ _ _ _ _ _ _ (omega arith) c.loop.invariant c.in_ok-function.ensures.end c.in_ok-function.ensures.rest
+    (own-step function_put function_declared (function c.loop.walker.at.end c.args.depth (left c.loop.walker)).0 (uses_of c.loop.walker) _ _ _ _ c.in_ok-function.ensures.uses c.in_ok-declare.ensures c.in_ok-function.ensures.declared)

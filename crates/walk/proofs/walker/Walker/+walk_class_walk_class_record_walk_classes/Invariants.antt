@@ -1,4 +1,4 @@
-use Rattle.std.proofs.Common.{◌+◌, ◌*◌}
+use Rattle.std.proofs.Common.{◌≡◌, ◌+◌, ◌*◌}
 use Rattle.model.specs.Tree.{no_class, add_class}
 use Rattle.walk.specs.Total.{one_class, rows}
 use Rattle.walk.specs.Puts.{classes_put}
@@ -16,4 +16,5 @@ decreases-walk_classes l = 3 * l.depth + 1
 
 abbrev pub invariant-walk_classes-loop : goal.invariant-walk_classes-loop
 invariant-walk_classes-loop l =
-    Sofar classes_put (rows no_class add_class (one_class l.end l.depth)) l.n l.counter (left l.initial.self) (uses_of l.initial.self) (left l.self) (uses_of l.self)
+    (l.self.at.end ≡ l.initial.self.at.end)
+    × Sofar classes_put (rows no_class add_class (one_class l.initial.self.at.end l.depth)) l.n l.counter (left l.initial.self) (uses_of l.initial.self) (left l.self) (uses_of l.self)

@@ -1,4 +1,4 @@
-use Rattle.std.proofs.Common.{◌+◌, ◌*◌}
+use Rattle.std.proofs.Common.{◌≡◌, ◌+◌, ◌*◌}
 use Rattle.model.specs.Tree.{end, item}
 use Rattle.walk.specs.Total.{expr, rows}
 use Rattle.walk.specs.Puts.{exprs_put}
@@ -16,4 +16,5 @@ decreases-walk_parts l = 3 * l.depth + 2
 
 abbrev pub invariant-walk_list-loop : goal.invariant-walk_list-loop
 invariant-walk_list-loop l =
-    Sofar exprs_put (rows end item (expr l.end l.depth)) l.n l.counter (left l.initial.self) (uses_of l.initial.self) (left l.self) (uses_of l.self)
+    (l.self.at.end ≡ l.initial.self.at.end)
+    × Sofar exprs_put (rows end item (expr l.initial.self.at.end l.depth)) l.n l.counter (left l.initial.self) (uses_of l.initial.self) (left l.self) (uses_of l.self)

@@ -6,4 +6,4 @@ use Rattle.walk.proofs.walker.Walker.walk_attributes.Goals as goal
 
 pub loop-preserved : goal.loop-preserved
 loop-preserved c =
-    sofar_more [] ◌∷◌ (attribute c.args.end c.args.depth) attribute_put (each_put attribute_put) (λ a l s. refl) c.count-n.result c.loop.counter _ _ _ _ _ _ (omega arith) c.loop.invariant c.in_ok-walk_attribute.ensures.rest c.in_ok-walk_attribute.ensures.uses
+    sofar_more [] ◌∷◌ (λ end. attribute end c.args.depth) attribute_put (each_put attribute_put) (λ a l s. refl) c.count-n.result c.loop.counter _ _ _ _ _ _ _ _ _ (omega arith) c.loop.invariant c.in_ok-walk_attribute.ensures.end c.in_ok-walk_attribute.ensures.rest c.in_ok-walk_attribute.ensures.uses
