@@ -63,9 +63,9 @@ bare_other d bs r h z eh er other-kind n f other =
     at_kind (ListOf k) o = refl
     at_kind Subscript o = refl
 
-pub made_by : {T E P Q : Type 0} (r : Result T E) → (P → Q) → IfOk r (λ _. P) → IfOk r (λ _. Q)
-made_by (Ok x) f g = f g
-made_by (Err y) f g = tt
+pub made_by : {T E P Q : Type 0} (r : Result T E) → IfOk r (λ _. P) → (P → Q) → IfOk r (λ _. Q)
+made_by (Ok x) g f = f g
+made_by (Err y) g f = tt
 
 pub walks_inside : (d p : ℕ) (h : Head) (w0 w1 w2 : Walker) → (d ≡ 0 → ⊥) → p ≡ place w0.at.end (left w0) → h ≡ (head (left w0)).0 → left w1 ≡ (head (left w0)).1 → w1.at.end ≡ w0.at.end → uses_of w1 ≡ uses_of w0 → Walks expr_put (parts (expr w1.at.end (d - 1)) p h) w1 w2 → Walks expr_put (expr w0.at.end d) w0 w2
 walks_inside d p h w0 w1 w2 z ep eh er en eu g =

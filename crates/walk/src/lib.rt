@@ -5,6 +5,7 @@ mod collector;
 mod cursor;
 mod headers;
 mod reached;
+mod times;
 mod walker;
 
 pub use collector::{Collected, collect};

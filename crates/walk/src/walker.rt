@@ -8,6 +8,7 @@ ghost use Rattle.walk.specs.Puts.{expr_put, exprs_put, each_put, any_put, value_
 ghost use Rattle.walk.specs.Walks.{Walks, Tells, Noted};
 
 use crate::cursor::{Cursor, stands};
+use crate::times::times;
 use model::maps::{
     ANNOTATION, CLASS_ATTRIBUTES, CLASS_BASES, CLASS_DECORATORS, CLASS_INNER, CLASS_METHODS,
     FUNCTION_DECORATORS, FUNCTION_KEYWORD, FUNCTION_KWARG, FUNCTION_POSITIONAL, FUNCTION_REGULAR,
@@ -80,10 +81,11 @@ impl<'a> Walker<'a> {
     fn walk_list(&mut self, n: u16, depth: u8) -> Result<(), AllocError>
         ensures { OnOk result (Walks exprs_put (rows_at no_expr add_expr (expr_at self.old.at.end depth) n) self.old self.new) }
     {
-        for _ in 0..n {
-            self.walk_expr(depth)?;
-        }
-        Ok(())
+        times(n, self, |walker|
+            ensures { OnOk result (Walks expr_put (expr_at walker.old.at.end depth) walker.old walker.new) }
+        {
+            walker.walk_expr(depth)
+        })
     }
 
     // A list field of expressions: bases or decorators.
@@ -134,10 +136,7 @@ impl<'a> Walker<'a> {
         ensures { OnOk result (Walks (each_put argument_put) (arguments_at self.old.at.end depth stands) self.old self.new) }
     {
         let n = self.at.count(stands);
-        for _ in 0..n {
-            self.walk_argument(depth)?;
-        }
-        Ok(())
+        times(n, self, |walker| walker.walk_argument(depth))
     }
 
     // A vararg or kwarg: it has no default.
@@ -184,20 +183,20 @@ impl<'a> Walker<'a> {
         ensures { OnOk result (Walks (each_put function_put) (functions_at self.old.at.end depth stands) self.old self.new) }
     {
         let n = self.at.count(stands);
-        for _ in 0..n {
-            self.walk_function(depth)?;
-        }
-        Ok(())
+        times(n, self, |walker| {
+            walker.walk_function(depth)?;
+            Ok(())
+        })
     }
 
     fn walk_attributes(&mut self, stands: bool, depth: u8) -> Result<(), AllocError>
         ensures { OnOk result (Walks (each_put attribute_put) (attributes_at self.old.at.end depth stands) self.old self.new) }
     {
         let n = self.at.count(stands);
-        for _ in 0..n {
-            self.walk_attribute(depth)?;
-        }
-        Ok(())
+        times(n, self, |walker| {
+            walker.walk_attribute(depth)?;
+            Ok(())
+        })
     }
 
     // A class, which is empty where the tree may go no deeper.
@@ -233,9 +232,11 @@ impl<'a> Walker<'a> {
         ensures { OnOk result (Walks classes_put (classes_at self.old.at.end depth stands) self.old self.new) }
     {
         let n = self.at.count(stands);
-        for _ in 0..n {
-            self.walk_class(depth)?;
-        }
-        Ok(())
+        times(n, self, |walker|
+            ensures { OnOk result (Walks class_put (class_at walker.old.at.end depth) walker.old walker.new) }
+        {
+            walker.walk_class(depth)?;
+            Ok(())
+        })
     }
 }
