@@ -1,15 +1,15 @@
 -- How the walk goes on: one step into an expression or a class, and a loop over items.
-use Rattle.std.proofs.Common.{◌≡◌, ℕ, zero, suc, ◌+◌, ◌-◌, ◌<◌, List, [], ◌∷◌, ◌++◌, IfOk, Ok, Err, Result, sym, refl, ap, ◌∙◌, arith, Bor}
+use Rattle.std.proofs.Common.{◌≡◌, ℕ, zero, suc, ◌+◌, ◌-◌, ◌<◌, List, [], IfOk, Ok, Err, Result, sym, refl, ap, ◌∙◌, arith, Bor}
 use Rattle.model.specs.declared.expression.Expression.{Expression}
 use Rattle.model.specs.declared.expression.Expression.TheVariants.{None, False, True, Int, Float, Str, Ellipsis, Name, Attribute, BinOp, Tuple, List as ListOf, Subscript}
 use Rattle.model.specs.Tree.{Text, Expr, Class, constant, py_none, end, pyclass, no_class}
 use Rattle.model.specs.Steps.{head_of, declared_of}
-use Rattle.model.specs.Uses.{Use, Declared, builtins, if_name, class_declared}
+use Rattle.model.specs.Uses.{Use, builtins, if_name, class_declared}
 use Rattle.model.specs.declared.uses.Declared.{Declared as DeclaredOf}
 use Rattle.model.specs.Read.{place, Head}
-use Rattle.walk.specs.Total.{head, parts, rows, expr, class_over, one_class}
-use Rattle.walk.specs.Puts.{skip, skips, skip_parts, expr_put, class_put, own_put}
-use Rattle.walk.specs.Walks.{Walks, Tells, Noted, Sofar, left, uses_of}
+use Rattle.walk.specs.Total.{head, parts, expr, class_over, one_class}
+use Rattle.walk.specs.Puts.{skip, skips, skip_parts, expr_put, class_put}
+use Rattle.walk.specs.Walks.{Walks, Tells, Noted, left, uses_of}
 use Rattle.walk.specs.declared.walker.Walker.{Walker}
 
 pub skip-zero : (d : ℕ) (bs : List ℕ) → d ≡ 0 → bs ≡ skip d bs
@@ -106,20 +106,3 @@ tells-inside n d w0 w1 v z g =
       end = g.end;
       declared = g.declared ∙ ap (λ (o : Class × List ℕ). class_declared o.0) e;
     }
-
-pub own-step : {A : Type 0} (put : A → List Use → List Use) (tell : A → Declared) (a : A) (us vs : List Use) (ds es : List Declared) (d : Declared) → vs ≡ put a us → es ≡ ds ++ d ∷ [] → d ≡ tell a → (vs, es) ≡ own_put put tell a (us, ds)
-own-step put tell a us vs ds es d eu ee ed = λ i. (eu i, (ee ∙ ap (λ (x : Declared). ds ++ x ∷ []) ed) i)
-
-module _ {A L S : Type 0} (none : L) (more : A → L → L) (one : ℕ → List ℕ → A × List ℕ) (put : A → S → S) (all : L → S → S) where
-  pub sofar_more : ((a : A) (l : L) (s : S) → all (more a l) s ≡ all l (put a s)) → (n i e e' e0 : ℕ) (bs r r' : List ℕ) (s t t' : S) → i < n → (e ≡ e0) × Sofar all (rows none more (one e0)) n i bs s r t → e' ≡ e → r' ≡ (one e r).1 → t' ≡ put (one e r).0 t → (e' ≡ e0) × Sofar all (rows none more (one e0)) n (i + 1) bs s r' t'
-  sofar_more cons n i e e' e0 bs r r' s t t' h sofar ee er et =
-      let k : n - i ≡ suc (n - (i + 1)) = omega arith in
-      let rest = rw k at sofar.1.rest in
-      let state = rw k at sofar.1.state in
-      let at : one e r ≡ one e0 r = λ j. one (sofar.0 j) r in (
-        ee ∙ sofar.0,
-        record {
-          rest = ap (λ x. (rows none more (one e0) (n - (i + 1)) x).1) (er ∙ ap (λ o. o.1) at) ∙ rest;
-          state = (λ j. all (rows none more (one e0) (n - (i + 1)) ((er ∙ ap (λ o. o.1) at) j)).0 ((et ∙ ap (λ o. put o.0 t) at) j)) ∙ (sym (cons _ _ t) ∙ state);
-        },
-      )

@@ -1,14 +1,24 @@
 -- What so many steps lead to.
-use Rattle.std.proofs.Common.{◌≡◌, ℕ, zero, suc, ◌+◌, ◌-◌, ◌<◌, Bool, List, Ok, Result, refl, ap, ◌∙◌, subst, arith, MutBor}
+use Rattle.std.proofs.Common.{◌≡◌, ℕ, zero, suc, ◌+◌, ◌-◌, ◌<◌, Bool, List, [], ◌∷◌, ◌++◌, vec_items, map, Ok, Result, refl, ap, ◌∙◌, subst, arith, MutBor}
 use Rattle.std.specs.Fn.{Shared}
 use Rattle.walk.specs.Repeats.{Steps, Repeats}
 use Rattle.walk.specs.Total.{rows, count, listed}
-use Rattle.walk.specs.Walks.{Walks, left, uses_of}
+use Rattle.std.proofs.lemmas.List.{map_push}
+use Rattle.walk.specs.Puts.{Gathered, own_put}
+use Rattle.model.specs.Steps.{declared_of}
+use Rattle.walk.specs.Walks.{Walks, Tells, Owns, left, uses_of, gathered}
+use Rattle.std.specs.declared.alloc.AllocError.{AllocError}
+use Rattle.model.specs.declared.uses.Declared.{Declared as DeclaredOf}
+use Rattle.walk.specs.Collects.{Declares}
 use Rattle.walk.specs.declared.walker.Walker.{Walker}
-use Rattle.model.specs.Uses.{Use}
+use Rattle.walk.specs.declared.collector.Collector.{Collector}
+use Rattle.model.specs.Uses.{Use, Declared}
 
 pub step_made : {F S R E : Type 0} (g : Shared F (MutBor S × Unit {0}) (Result R E × (MutBor S × Unit {0}))) (f : F) (x y : MutBor S) (r : Result R E) (v : R) → r ≡ Ok v → g.post f (x, tt) (r, (y, tt)) → Steps g f x.now y.now
 step_made g f x y r v e h = record { shown = x; shows = refl; value = v; left = y; met = subst (λ o. g.post f (x, tt) (o, (y, tt))) e h; leaves = refl }
+
+pub declares_made : {F : Type 0} (g : Shared F (MutBor Walker × (ℕ × Unit {0})) (Result DeclaredOf AllocError × (MutBor Walker × Unit {0}))) (f : F) (depth : ℕ) (x y : MutBor Walker) (r : Result DeclaredOf AllocError) (one : DeclaredOf) (s t : Collector) → r ≡ Ok one → g.post f (x, (depth, tt)) (r, (y, tt)) → x.now ≡ s.walker → y.now ≡ t.walker → vec_items t.declared ≡ vec_items s.declared ++ one ∷ [] → Declares g f depth s t
+declares_made g f depth x y r one s t e h ex ey ed = record { shown = x; shows = ex; one = one; left = y; met = subst (λ o. g.post f (x, (depth, tt)) (o, (y, tt))) e h; leaves = ey; declared = ed }
 
 pub repeats_more : {S : Type 0} (step : S → S → Type 0) (n i : ℕ) (s m t : S) → i < n → step s m → Repeats step (n - (i + 1)) m t → Repeats step (n - i) s t
 repeats_more step n i s m t h one more = let e : n - i ≡ suc (n - (i + 1)) = omega arith in rw e (m, one, more)
@@ -42,4 +52,27 @@ module _ {A L : Type 0} (none : L) (more : A → L → L) (one : ℕ → List �
         rest = g.rest ∙ (λ i. (rows none more (one (ee i)) (en i) (el i)).1);
         uses = g.uses ∙ (λ i. all (rows none more (one (ee i)) (en i) (el i)).0 (eu i));
         end = g.end ∙ ee;
+      }
+
+-- and over a field of a module, of which each record tells what it declares
+abbrev all_left : Collector → List ℕ
+all_left c = left c.walker
+
+abbrev all_gathered : Collector → Gathered
+all_gathered c = gathered c.walker (vec_items c.declared)
+
+module _ {A L F : Type 0} (none : L) (more : A → L → L) (one : ℕ → List ℕ → A × List ℕ) (put : A → List Use → List Use) (tell : A → Declared) (all : L → Gathered → Gathered) (nothing : (x : Gathered) → x ≡ all none x) (cons : (a : A) (l : L) (x : Gathered) → all l (own_put put tell a x) ≡ all (more a l) x) (g : Shared F (MutBor Walker × (ℕ × Unit {0})) (Result DeclaredOf AllocError × (MutBor Walker × Unit {0}))) (f : F) where
+  told : ((x y : MutBor Walker) (d : DeclaredOf) → g.post f (x, (64, tt)) (Ok d, (y, tt)) → Tells put tell (one x.now.at.end) x.now y.now d) → (s t : Collector) → Declares g f 64 s t → Read all_left (λ c. c.walker.at.end) all_gathered (own_put put tell) (one s.walker.at.end) s t
+  told tells s t d =
+      let w : Tells put tell (one s.walker.at.end) s.walker t.walker d.one = subst (λ w. Tells put tell (one w.at.end) w t.walker d.one) d.shows (subst (λ w. Tells put tell (one d.shown.now.at.end) d.shown.now w d.one) d.leaves (tells d.shown d.left d.one d.met)) in
+      let ds : map declared_of (vec_items t.declared) ≡ map declared_of (vec_items s.declared) ++ declared_of d.one ∷ [] = ap (map declared_of) d.declared ∙ map_push declared_of (vec_items s.declared) d.one in
+      (w.rest, λ i. (w.uses i, (ds ∙ ap (λ (x : Declared). map declared_of (vec_items s.declared) ++ x ∷ []) w.declared) i), w.end)
+
+  pub owned : (stands : Bool) (n : ℕ) (c0 c1 c2 : Collector) → n ≡ (count stands (all_left c0)).0 → all_left c1 ≡ (count stands (all_left c0)).1 → c1.walker.at.end ≡ c0.walker.at.end → all_gathered c1 ≡ all_gathered c0 → Repeats (Declares g f 64) n c1 c2 → ((x y : MutBor Walker) (d : DeclaredOf) → g.post f (x, (64, tt)) (Ok d, (y, tt)) → Tells put tell (one x.now.at.end) x.now y.now d) → Owns all (listed none more (one c0.walker.at.end) stands) c0.walker c2.walker (vec_items c0.declared) (vec_items c2.declared)
+  owned stands n c0 c1 c2 en el ee eg r tells =
+      let x = repeated all_left (λ c. c.walker.at.end) all_gathered none more one (own_put put tell) all nothing cons (Declares g f 64) (told tells) n c1.walker.at.end c1 c2 refl r in
+      record {
+        rest = x.0 ∙ (λ i. (rows none more (one (ee i)) (en i) (el i)).1);
+        state = x.1 ∙ (λ i. all (rows none more (one (ee i)) (en i) (el i)).0 (eg i));
+        end = x.2 ∙ ee;
       }

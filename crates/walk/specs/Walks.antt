@@ -1,5 +1,5 @@
 -- What a step of the walk leaves.
-use Rattle.std.specs.Prelude.{◌≡◌, ℕ, ◌-◌, List, [], ◌∷◌, ◌++◌, map, vec_items}
+use Rattle.std.specs.Prelude.{◌≡◌, ℕ, List, [], ◌∷◌, ◌++◌, map, vec_items}
 use Rattle.model.specs.Tree.{Text}
 use Rattle.model.specs.Uses.{Use, use', Declared}
 use Rattle.model.specs.Steps.{use_of, declared_of}
@@ -31,11 +31,6 @@ pub record Noted (p : ℕ) (m s : Text) (before after : Walker) : Type 0 where
   pub rest : left after ≡ left before
   pub uses : uses_of after ≡ uses_of before ++ use' p m s ∷ []
   pub end : after.at.end ≡ before.at.end
-
--- how far a loop over n items is: what is left to read gives what all of it gives
-pub record Sofar {L S : Type 0} (put : L → S → S) (rows : ℕ → List ℕ → L × List ℕ) (n i : ℕ) (before : List ℕ) (s : S) (after : List ℕ) (t : S) : Type 0 where
-  pub rest : (rows (n - i) after).1 ≡ (rows n before).1
-  pub state : put (rows (n - i) after).0 t ≡ put (rows n before).0 s
 
 abbrev pub gathered : Walker → List DeclaredOf → Gathered
 gathered w ds = (uses_of w, map declared_of ds)

@@ -81,11 +81,13 @@ impl<'a> Walker<'a> {
     fn walk_list(&mut self, n: u16, depth: u8) -> Result<(), AllocError>
         ensures { OnOk result (Walks exprs_put (rows_at no_expr add_expr (expr_at self.old.at.end depth) n) self.old self.new) }
     {
-        times(n, self, |walker|
-            ensures { OnOk result (Walks expr_put (expr_at walker.old.at.end depth) walker.old walker.new) }
-        {
-            walker.walk_expr(depth)
-        })
+        times(
+            n,
+            self,
+            |walker|
+                ensures { OnOk result (Walks expr_put (expr_at walker.old.at.end depth) walker.old walker.new) }
+            { walker.walk_expr(depth) },
+        )
     }
 
     // A list field of expressions: bases or decorators.
@@ -232,11 +234,15 @@ impl<'a> Walker<'a> {
         ensures { OnOk result (Walks classes_put (classes_at self.old.at.end depth stands) self.old self.new) }
     {
         let n = self.at.count(stands);
-        times(n, self, |walker|
-            ensures { OnOk result (Walks class_put (class_at walker.old.at.end depth) walker.old walker.new) }
-        {
-            walker.walk_class(depth)?;
-            Ok(())
-        })
+        times(
+            n,
+            self,
+            |walker|
+                ensures { OnOk result (Walks class_put (class_at walker.old.at.end depth) walker.old walker.new) }
+            {
+                walker.walk_class(depth)?;
+                Ok(())
+            },
+        )
     }
 }
