@@ -73,8 +73,8 @@ impl<'a> Cursor<'a> {
     {
         let count = self.number();
         let length = usize::from(count).min(self.rest.len());
-        let taken = &self.rest[0..length];
-        self.rest = &self.rest[length..];
+        let (taken, behind) = self.rest.split_at(length);
+        self.rest = behind;
         taken
     }
 
