@@ -16,6 +16,8 @@ pub(crate) fn stands(map: u16, bit: u16) -> bool
     map / bit % 2 == 1
 }
 
+// The reader's cursor in `model` has the same tags, but its steps fail, and say where. A cursor for both would make these
+// steps fail as well, or be a trait over the error: neither is plainer.
 #[derive(Clone, Copy)]
 pub struct Cursor<'a> {
     pub(crate) rest: &'a [u8],
