@@ -10,12 +10,8 @@ pub fn base_of(own: &[u8], package: bool) -> &[u8]
     if package {
         return own;
     }
-    let mut end = own.len();
-    while end > 0 {
-        end -= 1;
-        if own[end] == b'.' {
-            return &own[0..end];
-        }
+    match own.iter().rposition(|b| *b == b'.') {
+        Some(dot) => &own[..dot],
+        None => &[],
     }
-    &own[0..0]
 }

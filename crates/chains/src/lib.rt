@@ -8,4 +8,4 @@ mod modules;
 
 pub use base::base_of;
 pub use laws::{bases_lead, imports_resolve, modules_reached, worked_cases};
-pub use modules::{is_package, own_module};
+pub use modules::{Loaded, is_package};

@@ -7,56 +7,52 @@ ghost use Rattle.chains.specs.Chains.{own_in, package_in};
 use model::File;
 use model::maps::MODULE_MODULES;
 use std::alloc::{AllocError, Global};
-use walk::header;
+use walk::Header;
 
 // How deep a tree may go, and so how many modules can stand in a chain.
 const DEEPEST: u8 = 64;
 
-// Appends the dotted name of the file with this number. A name lies in the record of each module of the chain, so
-// it is put together from the root on.
-fn append_module(
-    out: &mut Vec<u8>,
-    model: &[u8],
-    files: &[File],
-    number: usize,
-    depth: u8,
-) -> Result<(), AllocError>
-    ensures { OnOk result (out.new.items ≡ out.old.items ++ own_in model.now files.now depth number) }
-{
-    if depth == 0 {
-        return Ok(());
-    }
-    if number >= files.len() {
-        return Ok(());
-    }
-    let file = files[number];
-    if let Some(holder) = file.holder {
-        append_module(out, model, files, holder, depth - 1)?;
-        out.push(b'.')?;
-    }
-    let (_, name) = header(model, file.place);
-    out.extend_from_slice(name)?;
-    Ok(())
+/// A model and its files in short.
+#[derive(Clone, Copy)]
+pub struct Loaded<'a> {
+    pub model: &'a [u8],
+    pub files: &'a [File],
 }
 
-/// The dotted name of the module that the file with this number stands for; empty past the last file.
-pub fn own_module(
-    heap: Global,
-    model: &[u8],
-    files: &[File],
-    number: usize,
-) -> Result<Vec<u8>, AllocError>
-    ensures { IfOk result (λ v. v.items ≡ own_in model.now files.now deepest_allowed number) }
-{
-    let mut out = Vec::new(heap);
-    append_module(&mut out, model, files, number, DEEPEST)?;
-    Ok(out)
+impl<'a> Loaded<'a> {
+    // Appends the dotted name of the file with this number. A name lies in the record of each module of the chain, so
+    // it is put together from the root on.
+    fn append_module(&self, out: &mut Vec<u8>, number: usize, depth: u8) -> Result<(), AllocError>
+        ensures { OnOk result (out.new.items ≡ out.old.items ++ own_in self.now.model.now self.now.files.now depth number) }
+    {
+        if depth == 0 {
+            return Ok(());
+        }
+        let Some(file) = self.files.get(number) else {
+            return Ok(());
+        };
+        if let Some(holder) = file.holder {
+            self.append_module(out, holder, depth - 1)?;
+            out.push(b'.')?;
+        }
+        out.extend_from_slice(Header::at(self.model, file.place).name)?;
+        Ok(())
+    }
+
+    /// The dotted name of the module that the file with this number stands for; empty past the last file.
+    pub fn own_module(&self, heap: Global, number: usize) -> Result<Vec<u8>, AllocError>
+        ensures { IfOk result (λ v. v.items ≡ own_in self.now.model.now self.now.files.now deepest_allowed number) }
+    {
+        let mut out = Vec::new(heap);
+        self.append_module(&mut out, number, DEEPEST)?;
+        Ok(out)
+    }
 }
 
 /// Whether a file's module is a package: it is the root, or has submodules.
 pub fn is_package(model: &[u8], file: File) -> bool
     ensures { result ≡ package_in model.now file }
 {
-    let (map, _) = header(model, file.place);
+    let map = Header::at(model, file.place).map;
     file.holder.is_none() || map / MODULE_MODULES % 2 == 1
 }

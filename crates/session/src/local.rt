@@ -10,7 +10,7 @@ ghost use Rattle.session.specs.Local.{local_of, in_room, joined, Answers};
 use crate::fault::Fault;
 use crate::state::Session;
 use binding::Names;
-use chains::own_module;
+use chains::Loaded;
 use model::File;
 use references::{Reference, split_root};
 use resolver::{Fault as Unresolved, resolve};
@@ -57,7 +57,7 @@ fn local_in<'a>(
     requires there { file < length files.now }
     ensures { Answers (local_of model.now file (pair_of reference.entry) (length buffer.old)) result buffer.old buffer.new }
 {
-    let own = own_module(heap, model, files, file)?;
+    let own = Loaded { model, files }.own_module(heap, file)?;
     let names = resolve(heap, model, files[file], own.as_slice())?;
     write_name(&names, reference, buffer)
 }

@@ -122,16 +122,18 @@ pub file-own : (n d m : ℕ) (bs r s : List ℕ) (x y z : Gathered) → r ≡ (c
 file-own n d m bs r s x y z er ex es ey ez =
     ez ∙ ((λ i. own_attributes_put (attributes n d (bit m 8) ((es ∙ ap (λ l. (functions n d (bit m 4) l).1) er) i)).0 ((ey ∙ (λ j. own_functions_put (functions n d (bit m 4) (er j)).0 (ex j))) i)) ∙ all_own (own n d m bs).0.classes (own n d m bs).0.functions (own n d m bs).0.attributes)
 
-pub collects : (bs : List ℕ) (f : File) (head : List ℕ) (m : ℕ) (b c d : Bool) (w0 w1 w2 w3 : Walker) (d0 d1 d2 d3 : List DeclaredOf) → head ≡ drop f.place bs → m ≡ (number head).0 → left w0 ≡ drop f.own bs → gathered w0 d0 ≡ ([], []) → b ≡ bit m 2 → c ≡ bit m 4 → d ≡ bit m 8 → Owns own_classes_put (classes (length bs) 64 b) w0 w1 d0 d1 → Owns own_functions_put (functions (length bs) 64 c) w1 w2 d1 d2 → Owns own_attributes_put (attributes (length bs) 64 d) w2 w3 d2 d3 → gathered w3 d3 ≡ (uses_in (own_in bs f), declared_in (own_in bs f))
-collects bs f head m b c d w0 w1 w2 w3 d0 d1 d2 d3 eh em el eg eb ec ed x y z =
+pub collects : (bs : List ℕ) (f : File) (head : List ℕ) (m : ℕ) (b c d : Bool) (w0 w1 w2 w3 : Walker) (d0 d1 d2 d3 : List DeclaredOf) → head ≡ drop f.place bs → m ≡ (number head).0 → left w0 ≡ drop f.own bs → w0.at.end ≡ length bs → gathered w0 d0 ≡ ([], []) → b ≡ bit m 2 → c ≡ bit m 4 → d ≡ bit m 8 → Owns own_classes_put (classes w0.at.end 64 b) w0 w1 d0 d1 → Owns own_functions_put (functions w1.at.end 64 c) w1 w2 d1 d2 → Owns own_attributes_put (attributes w2.at.end 64 d) w2 w3 d2 d3 → gathered w3 d3 ≡ (uses_in (own_in bs f), declared_in (own_in bs f))
+collects bs f head m b c d w0 w1 w2 w3 d0 d1 d2 d3 eh em el en eg eb ec ed x y z =
     let n : ℕ = length bs in
     let map : m ≡ (number (drop f.place bs)).0 = em ∙ ap (λ (l : List ℕ). (number l).0) eh in
     let eb' : b ≡ bit (number (drop f.place bs)).0 2 = eb ∙ ap (λ (k : ℕ). bit k 2) map in
     let ec' : c ≡ bit (number (drop f.place bs)).0 4 = ec ∙ ap (λ (k : ℕ). bit k 4) map in
     let ed' : d ≡ bit (number (drop f.place bs)).0 8 = ed ∙ ap (λ (k : ℕ). bit k 8) map in
+    let en1 : w1.at.end ≡ n = x.end ∙ en in
+    let en2 : w2.at.end ≡ n = y.end ∙ en1 in
     file-own n 64 (number (drop f.place bs)).0 (drop f.own bs) (left w1) (left w2) (gathered w1 d1) (gathered w2 d2) (gathered w3 d3)
-    (x.rest ∙ (λ i. (classes n 64 (eb' i) (el i)).1))
-    (x.state ∙ (λ i. own_classes_put (classes n 64 (eb' i) (el i)).0 (eg i)))
-    (y.rest ∙ ap (λ (k : Bool). (functions n 64 k (left w1)).1) ec')
-    (y.state ∙ ap (λ (k : Bool). own_functions_put (functions n 64 k (left w1)).0 (gathered w1 d1)) ec')
-    (z.state ∙ ap (λ (k : Bool). own_attributes_put (attributes n 64 k (left w2)).0 (gathered w2 d2)) ed')
+    (x.rest ∙ (λ i. (classes (en i) 64 (eb' i) (el i)).1))
+    (x.state ∙ (λ i. own_classes_put (classes (en i) 64 (eb' i) (el i)).0 (eg i)))
+    (y.rest ∙ (λ i. (functions (en1 i) 64 (ec' i) (left w1)).1))
+    (y.state ∙ (λ i. own_functions_put (functions (en1 i) 64 (ec' i) (left w1)).0 (gathered w1 d1)))
+    (z.state ∙ (λ i. own_attributes_put (attributes (en2 i) 64 (ed' i) (left w2)).0 (gathered w2 d2)))

@@ -1,15 +1,15 @@
 -- How the walk goes on: one step into an expression or a class, and a loop over items.
-use Rattle.std.proofs.Common.{◌≡◌, ℕ, zero, suc, ◌+◌, ◌-◌, ◌<◌, List, [], ◌∷◌, ◌++◌, IfOk, Ok, Err, Result, sym, refl, ap, ◌∙◌, arith, Bor}
+use Rattle.std.proofs.Common.{◌≡◌, ℕ, zero, suc, ◌+◌, ◌-◌, ◌<◌, List, [], IfOk, Ok, Err, Result, sym, refl, ap, ◌∙◌, arith, Bor}
 use Rattle.model.specs.declared.expression.Expression.{Expression}
 use Rattle.model.specs.declared.expression.Expression.TheVariants.{None, False, True, Int, Float, Str, Ellipsis, Name, Attribute, BinOp, Tuple, List as ListOf, Subscript}
 use Rattle.model.specs.Tree.{Text, Expr, Class, constant, py_none, end, pyclass, no_class}
 use Rattle.model.specs.Steps.{head_of, declared_of}
-use Rattle.model.specs.Uses.{Use, Declared, builtins, if_name, class_declared}
+use Rattle.model.specs.Uses.{Use, builtins, if_name, class_declared}
 use Rattle.model.specs.declared.uses.Declared.{Declared as DeclaredOf}
 use Rattle.model.specs.Read.{place, Head}
-use Rattle.walk.specs.Total.{head, parts, rows, expr, class_over, one_class}
-use Rattle.walk.specs.Puts.{skip, skips, skip_parts, expr_put, class_put, own_put}
-use Rattle.walk.specs.Walks.{Walks, Tells, Noted, Sofar, left, uses_of}
+use Rattle.walk.specs.Total.{head, parts, expr, class_over, one_class}
+use Rattle.walk.specs.Puts.{skip, skips, skip_parts, expr_put, class_put}
+use Rattle.walk.specs.Walks.{Walks, Tells, Noted, left, uses_of}
 use Rattle.walk.specs.declared.walker.Walker.{Walker}
 
 pub skip-zero : (d : ℕ) (bs : List ℕ) → d ≡ 0 → bs ≡ skip d bs
@@ -63,18 +63,18 @@ bare_other d bs r h z eh er other-kind n f other =
     at_kind (ListOf k) o = refl
     at_kind Subscript o = refl
 
-pub made_by : {T E P Q : Type 0} (r : Result T E) → (P → Q) → IfOk r (λ _. P) → IfOk r (λ _. Q)
-made_by (Ok x) f g = f g
-made_by (Err y) f g = tt
+pub made_by : {T E P Q : Type 0} (r : Result T E) → IfOk r (λ _. P) → (P → Q) → IfOk r (λ _. Q)
+made_by (Ok x) g f = f g
+made_by (Err y) g f = tt
 
-pub walks_inside : (n d p : ℕ) (h : Head) (w0 w1 w2 : Walker) → (d ≡ 0 → ⊥) → p ≡ place n (left w0) → h ≡ (head (left w0)).0 → left w1 ≡ (head (left w0)).1 → uses_of w1 ≡ uses_of w0 → Walks expr_put (parts (expr n (d - 1)) p h) w1 w2 → Walks expr_put (expr n d) w0 w2
-walks_inside n d p h w0 w1 w2 z ep eh er eu g =
-    let e = sym (expr-inside n d p (left w0) (left w1) h z ep eh er) in
-    record { rest = g.rest ∙ ap (λ (o : Expr × List ℕ). o.1) e; uses = g.uses ∙ (λ i. expr_put (e i).0 (eu i)) }
+pub walks_inside : (d p : ℕ) (h : Head) (w0 w1 w2 : Walker) → (d ≡ 0 → ⊥) → p ≡ place w0.at.end (left w0) → h ≡ (head (left w0)).0 → left w1 ≡ (head (left w0)).1 → w1.at.end ≡ w0.at.end → uses_of w1 ≡ uses_of w0 → Walks expr_put (parts (expr w1.at.end (d - 1)) p h) w1 w2 → Walks expr_put (expr w0.at.end d) w0 w2
+walks_inside d p h w0 w1 w2 z ep eh er en eu g =
+    let e = (λ i. parts (expr (en i) (d - 1)) p h (left w1)) ∙ sym (expr-inside w0.at.end d p (left w0) (left w1) h z ep eh er) in
+    record { rest = g.rest ∙ ap (λ (o : Expr × List ℕ). o.1) e; uses = g.uses ∙ (λ i. expr_put (e i).0 (eu i)); end = g.end ∙ en }
 
 pub noted_name : (one : List ℕ → Expr × List ℕ) (p : ℕ) (h : Expression) (s : Bor Text) (w0 w1 : Walker) → h ≡ Name s → Noted p builtins s.now w0 w1 → Walks expr_put (parts one p (head_of h)) w0 w1
 noted_name one p h s w0 w1 e g =
-    record { rest = g.rest ∙ ap (λ (k : Expression). (parts one p (head_of k) (left w0)).1) (sym e); uses = g.uses ∙ ap (λ (k : Expression). expr_put (parts one p (head_of k) (left w0)).0 (uses_of w0)) (sym e) }
+    record { rest = g.rest ∙ ap (λ (k : Expression). (parts one p (head_of k) (left w0)).1) (sym e); uses = g.uses ∙ ap (λ (k : Expression). expr_put (parts one p (head_of k) (left w0)).0 (uses_of w0)) (sym e); end = g.end }
 
 pub class-zero : (n d : ℕ) (bs : List ℕ) → d ≡ 0 → one_class n d bs ≡ (pyclass (place n bs) [] end [] [] end no_class, bs)
 unfolding one_class
@@ -93,6 +93,7 @@ tells_empty n d p w v z ep ev =
     record {
       rest = ap (λ (o : Class × List ℕ). o.1) e;
       uses = ap (λ (o : Class × List ℕ). class_put o.0 (uses_of w)) e;
+      end = refl;
       declared = ev ∙ (ap (λ (q : ℕ). record { place = q; name = [] }) ep ∙ ap (λ (o : Class × List ℕ). class_declared o.0) e);
     }
 
@@ -102,19 +103,6 @@ tells-inside n d w0 w1 v z g =
     record {
       rest = g.rest ∙ ap (λ (o : Class × List ℕ). o.1) e;
       uses = g.uses ∙ ap (λ (o : Class × List ℕ). class_put o.0 (uses_of w0)) e;
+      end = g.end;
       declared = g.declared ∙ ap (λ (o : Class × List ℕ). class_declared o.0) e;
     }
-
-pub own-step : {A : Type 0} (put : A → List Use → List Use) (tell : A → Declared) (a : A) (us vs : List Use) (ds es : List Declared) (d : Declared) → vs ≡ put a us → es ≡ ds ++ d ∷ [] → d ≡ tell a → (vs, es) ≡ own_put put tell a (us, ds)
-own-step put tell a us vs ds es d eu ee ed = λ i. (eu i, (ee ∙ ap (λ (x : Declared). ds ++ x ∷ []) ed) i)
-
-module _ {A L S : Type 0} (none : L) (more : A → L → L) (one : List ℕ → A × List ℕ) (put : A → S → S) (all : L → S → S) where
-  pub sofar_more : ((a : A) (l : L) (s : S) → all (more a l) s ≡ all l (put a s)) → (n i : ℕ) (bs r r' : List ℕ) (s t t' : S) → i < n → Sofar all (rows none more one) n i bs s r t → r' ≡ (one r).1 → t' ≡ put (one r).0 t → Sofar all (rows none more one) n (i + 1) bs s r' t'
-  sofar_more cons n i bs r r' s t t' h sofar er et =
-      let e : n - i ≡ suc (n - (i + 1)) = omega arith in
-      let rest = rw e at sofar.rest in
-      let state = rw e at sofar.state in
-      record {
-        rest = ap (λ x. (rows none more one (n - (i + 1)) x).1) er ∙ rest;
-        state = (rw (er, et) (sym (cons _ _ t))) ∙ state;
-      }

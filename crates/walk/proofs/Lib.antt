@@ -1,4 +1,5 @@
 pub mod Cuts
+pub mod Repeating
 pub mod Going
 pub mod Skipped
 pub mod Gathering

@@ -1,5 +1,5 @@
 -- What a step of the walk leaves.
-use Rattle.std.specs.Prelude.{◌≡◌, ℕ, ◌-◌, List, [], ◌∷◌, ◌++◌, map, vec_items}
+use Rattle.std.specs.Prelude.{◌≡◌, ℕ, List, [], ◌∷◌, ◌++◌, map, vec_items}
 use Rattle.model.specs.Tree.{Text}
 use Rattle.model.specs.Uses.{Use, use', Declared}
 use Rattle.model.specs.Steps.{use_of, declared_of}
@@ -17,22 +17,20 @@ uses_of w = map use_of (vec_items w.uses)
 pub record Walks {A : Type 0} (put : A → List Use → List Use) (one : List ℕ → A × List ℕ) (before after : Walker) : Type 0 where
   pub rest : left after ≡ (one (left before)).1
   pub uses : uses_of after ≡ put (one (left before)).0 (uses_of before)
+  pub end : after.at.end ≡ before.at.end
 
 -- the same of a record, of which the walker hands back what it declares
 pub record Tells {A : Type 0} (put : A → List Use → List Use) (tell : A → Declared) (one : List ℕ → A × List ℕ) (before after : Walker) (d : DeclaredOf) : Type 0 where
   pub rest : left after ≡ (one (left before)).1
   pub uses : uses_of after ≡ put (one (left before)).0 (uses_of before)
+  pub end : after.at.end ≡ before.at.end
   pub declared : declared_of d ≡ tell (one (left before)).0
 
 -- one reference more, and no byte less
 pub record Noted (p : ℕ) (m s : Text) (before after : Walker) : Type 0 where
   pub rest : left after ≡ left before
   pub uses : uses_of after ≡ uses_of before ++ use' p m s ∷ []
-
--- how far a loop over n items is: what is left to read gives what all of it gives
-pub record Sofar {L S : Type 0} (put : L → S → S) (rows : ℕ → List ℕ → L × List ℕ) (n i : ℕ) (before : List ℕ) (s : S) (after : List ℕ) (t : S) : Type 0 where
-  pub rest : (rows (n - i) after).1 ≡ (rows n before).1
-  pub state : put (rows (n - i) after).0 t ≡ put (rows n before).0 s
+  pub end : after.at.end ≡ before.at.end
 
 abbrev pub gathered : Walker → List DeclaredOf → Gathered
 gathered w ds = (uses_of w, map declared_of ds)
@@ -41,3 +39,4 @@ gathered w ds = (uses_of w, map declared_of ds)
 pub record Owns {A : Type 0} (put : A → Gathered → Gathered) (one : List ℕ → A × List ℕ) (before after : Walker) (ds es : List DeclaredOf) : Type 0 where
   pub rest : left after ≡ (one (left before)).1
   pub state : gathered after es ≡ put (one (left before)).0 (gathered before ds)
+  pub end : after.at.end ≡ before.at.end

@@ -1,12 +1,10 @@
 // What a file of the model declares and what it refers to.
-ghost use Rattle.std.specs.Prelude.{◌≡◌, [], ◌∷◌, ◌++◌, map, IfOk, OnOk};
-ghost use Rattle.model.specs.Steps.{declared_of};
-ghost use Rattle.walk.specs.Total.{functions as functions_at, attributes as attributes_at, classes as classes_at};
-ghost use Rattle.walk.specs.Puts.{own_classes_put, own_functions_put, own_attributes_put};
-ghost use Rattle.walk.specs.Walks.{Owns};
-ghost use Rattle.walk.specs.Collects.{Collects};
+ghost use Rattle.std.specs.Prelude.{IfOk, OnOk};
+ghost use Rattle.walk.specs.Repeats.{Repeats};
+ghost use Rattle.walk.specs.Collects.{Collects, Declares};
 
 use crate::cursor::{Cursor, stands};
+use crate::times::times;
 use crate::walker::Walker;
 use model::maps::{MODULE_ATTRIBUTES, MODULE_CLASSES, MODULE_FUNCTIONS};
 use model::{Declared, File, Use};
@@ -22,98 +20,51 @@ pub struct Collected<'a> {
 // How deep a tree may go.
 const DEEPEST: u8 = 64;
 
-fn declare<'a>(declared: &mut Vec<Declared<'a>>, one: Declared<'a>) -> Result<(), AllocError>
-    ensures { OnOk result (map declared_of declared.new.items ≡ map declared_of declared.old.items ++ declared_of one.entry ∷ []) }
-{
-    declared.push(one)?;
-    Ok(())
+// A walk, and what was declared on it.
+#[derive(Drop)]
+pub(crate) struct Collector<'a> {
+    pub(crate) walker: Walker<'a>,
+    pub(crate) declared: Vec<Declared<'a>>,
 }
 
-fn own_classes<'a>(
-    walker: &mut Walker<'a>,
-    declared: &mut Vec<Declared<'a>>,
-    end: usize,
-    stands: bool,
-    depth: u8,
-) -> Result<(), AllocError>
-    ensures { OnOk result (Owns own_classes_put (classes_at end depth stands) walker.old walker.new declared.old.items declared.new.items) }
-{
-    let n = walker.at.count(stands);
-    for _ in 0..n {
-        let class = walker.walk_class(end, depth)?;
-        declare(declared, class)?;
+impl<'a> Collector<'a> {
+    // The next n records, which `item` walks one by one.
+    fn own<F: Fn(&mut Walker<'a>, u8) -> Result<Declared<'a>, AllocError>>(
+        &mut self,
+        n: u16,
+        item: F,
+    ) -> Result<(), AllocError>
+        requires { F.IsAlwaysCallable item }
+        ensures { OnOk result (Repeats (Declares F.Fn item 64) n self.old self.new) }
+    {
+        for _ in 0..n {
+            let one = item(&mut self.walker, DEEPEST)?;
+            self.declared.push(one)?;
+        }
+        Ok(())
     }
-    Ok(())
-}
-
-fn own_functions<'a>(
-    walker: &mut Walker<'a>,
-    declared: &mut Vec<Declared<'a>>,
-    end: usize,
-    stands: bool,
-    depth: u8,
-) -> Result<(), AllocError>
-    ensures { OnOk result (Owns own_functions_put (functions_at end depth stands) walker.old walker.new declared.old.items declared.new.items) }
-{
-    let n = walker.at.count(stands);
-    for _ in 0..n {
-        let function = walker.walk_function(end, depth)?;
-        declare(declared, function)?;
-    }
-    Ok(())
-}
-
-fn own_attributes<'a>(
-    walker: &mut Walker<'a>,
-    declared: &mut Vec<Declared<'a>>,
-    end: usize,
-    stands: bool,
-    depth: u8,
-) -> Result<(), AllocError>
-    ensures { OnOk result (Owns own_attributes_put (attributes_at end depth stands) walker.old walker.new declared.old.items declared.new.items) }
-{
-    let n = walker.at.count(stands);
-    for _ in 0..n {
-        let attribute = walker.walk_attribute(end, depth)?;
-        declare(declared, attribute)?;
-    }
-    Ok(())
 }
 
 // The declarations of a file stand at its `own`, and which fields they have at its `place`.
 pub fn collect<'a>(heap: Global, model: &'a [u8], file: File) -> Result<Collected<'a>, AllocError>
     ensures { IfOk result (λ v. Collects model.now file v) }
 {
-    let end = model.len();
     let map = Cursor::at(model, file.place).number();
-    let mut declared = Vec::new(heap);
-    let mut walker = Walker {
-        at: Cursor::at(model, file.own),
-        uses: Vec::new(heap),
+    let mut all = Collector {
+        walker: Walker {
+            at: Cursor::at(model, file.own),
+            uses: Vec::new(heap),
+        },
+        declared: Vec::new(heap),
     };
-    own_classes(
-        &mut walker,
-        &mut declared,
-        end,
-        stands(map, MODULE_CLASSES),
-        DEEPEST,
-    )?;
-    own_functions(
-        &mut walker,
-        &mut declared,
-        end,
-        stands(map, MODULE_FUNCTIONS),
-        DEEPEST,
-    )?;
-    own_attributes(
-        &mut walker,
-        &mut declared,
-        end,
-        stands(map, MODULE_ATTRIBUTES),
-        DEEPEST,
-    )?;
+    let classes = all.walker.at.count(stands(map, MODULE_CLASSES));
+    all.own(classes, Walker::walk_class)?;
+    let functions = all.walker.at.count(stands(map, MODULE_FUNCTIONS));
+    all.own(functions, Walker::walk_function)?;
+    let attributes = all.walker.at.count(stands(map, MODULE_ATTRIBUTES));
+    all.own(attributes, Walker::walk_attribute)?;
     Ok(Collected {
-        declared,
-        uses: walker.uses,
+        declared: all.declared,
+        uses: all.walker.uses,
     })
 }

@@ -1,6 +1,6 @@
 // A cursor over packed bytes that are known to be laid out, so that every step has an answer: past the end there are
-// zeros. It keeps only what is left; the model's length, by which places are told, is the caller's to pass.
-ghost use Rattle.std.specs.Prelude.{◌≡◌, ◌<◌, drop};
+// zeros. It keeps only what is left, and the model's length, by which places are told.
+ghost use Rattle.std.specs.Prelude.{◌≡◌, ◌<◌, drop, length};
 ghost use Rattle.model.specs.Read.{place as place_of, bit as bit_of};
 ghost use Rattle.model.specs.Steps.{head_of};
 ghost use Rattle.walk.specs.Total.{byte as byte_at, number as number_at, text as text_at, count as count_at, head as head_at};
@@ -16,45 +16,51 @@ pub(crate) fn stands(map: u16, bit: u16) -> bool
     map / bit % 2 == 1
 }
 
+// The reader's cursor in `model` has the same tags, but its steps fail, and say where. A cursor for both would make these
+// steps fail as well, or be a trait over the error: neither is plainer.
 #[derive(Clone, Copy)]
 pub struct Cursor<'a> {
-    pub rest: &'a [u8],
+    pub(crate) rest: &'a [u8],
+    pub(crate) end: usize,
 }
 
 impl<'a> Cursor<'a> {
     // The cursor at this offset of the model.
     pub fn at(model: &'a [u8], place: usize) -> Self
-        ensures { result.rest.now ≡ drop place model.now }
+        ensures rest { result.rest.now ≡ drop place model.now }
+        ensures end { result.end ≡ length model.now }
     {
         let start = place.min(model.len());
         Cursor {
             rest: &model[start..],
+            end: model.len(),
         }
     }
 
     // Where the next byte stands in the model.
-    pub fn place(&self, end: usize) -> usize
-        ensures { result ≡ place_of end self.now.rest.now }
+    pub fn place(&self) -> usize
+        ensures { result ≡ place_of self.now.end self.now.rest.now }
     {
-        end.saturating_sub(self.rest.len())
+        self.end.saturating_sub(self.rest.len())
     }
 
     pub fn byte(&mut self) -> u8
         ensures is { result ≡ (byte_at self.old.rest.now).0 }
         ensures rest { self.new.rest.now ≡ (byte_at self.old.rest.now).1 }
+        ensures end { self.new.end ≡ self.old.end }
     {
-        if self.rest.len() == 0 {
+        let Some((first, behind)) = self.rest.split_first() else {
             return 0;
-        }
-        let first = self.rest[0];
-        self.rest = &self.rest[1..];
-        first
+        };
+        self.rest = behind;
+        *first
     }
 
     // A number of 16 bits, the high byte first.
     pub fn number(&mut self) -> u16
         ensures is { result ≡ (number_at self.old.rest.now).0 }
         ensures rest { self.new.rest.now ≡ (number_at self.old.rest.now).1 }
+        ensures end { self.new.end ≡ self.old.end }
     {
         let high = self.byte();
         let low = self.byte();
@@ -65,11 +71,12 @@ impl<'a> Cursor<'a> {
     pub fn text(&mut self) -> &'a [u8]
         ensures is { result.now ≡ (text_at self.old.rest.now).0 }
         ensures rest { self.new.rest.now ≡ (text_at self.old.rest.now).1 }
+        ensures end { self.new.end ≡ self.old.end }
     {
         let count = self.number();
         let length = usize::from(count).min(self.rest.len());
-        let taken = &self.rest[0..length];
-        self.rest = &self.rest[length..];
+        let (taken, behind) = self.rest.split_at(length);
+        self.rest = behind;
         taken
     }
 
@@ -77,6 +84,7 @@ impl<'a> Cursor<'a> {
     pub fn count(&mut self, stands: bool) -> u16
         ensures is { result ≡ (count_at stands self.old.rest.now).0 }
         ensures rest { self.new.rest.now ≡ (count_at stands self.old.rest.now).1 }
+        ensures end { self.new.end ≡ self.old.end }
     {
         if stands { self.number() } else { 0 }
     }
@@ -85,6 +93,7 @@ impl<'a> Cursor<'a> {
     pub fn next(&mut self) -> Expression<'a>
         ensures is { head_of result ≡ (head_at self.old.rest.now).0 }
         ensures rest { self.new.rest.now ≡ (head_at self.old.rest.now).1 }
+        ensures end { self.new.end ≡ self.old.end }
     {
         match self.byte() {
             0 => Expression::None,
@@ -106,7 +115,8 @@ impl<'a> Cursor<'a> {
 
     // The text of a Name, which is passed; any other expression is still to be read.
     pub fn bare_name(&mut self, depth: u8) -> Option<&'a [u8]>
-        ensures { Bare result depth self.old.rest.now self.new.rest.now }
+        ensures is { Bare result depth self.old.rest.now self.new.rest.now }
+        ensures end { self.new.end ≡ self.old.end }
     {
         if depth == 0 {
             return None;
@@ -124,7 +134,8 @@ impl<'a> Cursor<'a> {
     // Passes over an expression that may go this deep.
     #[cycle(skip_expr_skip_list_skip_parts)]
     pub fn skip_expr(&mut self, depth: u8)
-        ensures { self.new.rest.now ≡ skip_at depth self.old.rest.now }
+        ensures rest { self.new.rest.now ≡ skip_at depth self.old.rest.now }
+        ensures end { self.new.end ≡ self.old.end }
     {
         if depth > 0 {
             let head = self.next();
@@ -134,7 +145,8 @@ impl<'a> Cursor<'a> {
 
     #[cycle(skip_expr_skip_list_skip_parts)]
     fn skip_parts(&mut self, head: Expression<'a>, depth: u8)
-        ensures { self.new.rest.now ≡ skip_parts_at (skip_at depth) (head_of head.entry) self.old.rest.now }
+        ensures rest { self.new.rest.now ≡ skip_parts_at (skip_at depth) (head_of head.entry) self.old.rest.now }
+        ensures end { self.new.end ≡ self.old.end }
     {
         match head {
             Expression::Attribute => {
@@ -153,7 +165,8 @@ impl<'a> Cursor<'a> {
 
     #[cycle(skip_expr_skip_list_skip_parts)]
     fn skip_list(&mut self, n: u16, depth: u8)
-        ensures { self.new.rest.now ≡ skips_at (skip_at depth) n self.old.rest.now }
+        ensures rest { self.new.rest.now ≡ skips_at (skip_at depth) n self.old.rest.now }
+        ensures end { self.new.end ≡ self.old.end }
     {
         for _ in 0..n {
             self.skip_expr(depth);

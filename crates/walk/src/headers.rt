@@ -4,13 +4,22 @@ ghost use Rattle.walk.specs.Total.{number as number_at, text as text_at};
 
 use crate::cursor::Cursor;
 
-// The map and the name of the record at this place.
-pub fn header<'a>(model: &'a [u8], place: usize) -> (u16, &'a [u8])
-    ensures map { result.0 ≡ (number_at (drop place model.now)).0 }
-    ensures name { result.1.now ≡ (text_at (number_at (drop place model.now)).1).0 }
-{
-    let mut at = Cursor::at(model, place);
-    let map = at.number();
-    let name = at.text();
-    (map, name)
+// A record's map and its name.
+#[derive(Clone, Copy)]
+pub struct Header<'a> {
+    pub map: u16,
+    pub name: &'a [u8],
+}
+
+impl<'a> Header<'a> {
+    // Of the record at this place.
+    pub fn at(model: &'a [u8], place: usize) -> Self
+        ensures map { result.map ≡ (number_at (drop place model.now)).0 }
+        ensures name { result.name.now ≡ (text_at (number_at (drop place model.now)).1).0 }
+    {
+        let mut at = Cursor::at(model, place);
+        let map = at.number();
+        let name = at.text();
+        Header { map, name }
+    }
 }

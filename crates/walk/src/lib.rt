@@ -5,9 +5,10 @@ mod collector;
 mod cursor;
 mod headers;
 mod reached;
+mod times;
 mod walker;
 
 pub use collector::{Collected, collect};
 pub use cursor::Cursor;
-pub use headers::header;
+pub use headers::Header;
 pub use reached::{files_reached, readings_agree};

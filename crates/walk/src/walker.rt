@@ -8,6 +8,7 @@ ghost use Rattle.walk.specs.Puts.{expr_put, exprs_put, each_put, any_put, value_
 ghost use Rattle.walk.specs.Walks.{Walks, Tells, Noted};
 
 use crate::cursor::{Cursor, stands};
+use crate::times::times;
 use model::maps::{
     ANNOTATION, CLASS_ATTRIBUTES, CLASS_BASES, CLASS_DECORATORS, CLASS_INNER, CLASS_METHODS,
     FUNCTION_DECORATORS, FUNCTION_KEYWORD, FUNCTION_KWARG, FUNCTION_POSITIONAL, FUNCTION_REGULAR,
@@ -32,27 +33,26 @@ impl<'a> Walker<'a> {
     }
 
     #[cycle(walk_expr_walk_list_walk_parts)]
-    fn walk_expr(&mut self, end: usize, depth: u8) -> Result<(), AllocError>
-        ensures { OnOk result (Walks expr_put (expr_at end depth) self.old self.new) }
+    fn walk_expr(&mut self, depth: u8) -> Result<(), AllocError>
+        ensures { OnOk result (Walks expr_put (expr_at self.old.at.end depth) self.old self.new) }
     {
         if depth == 0 {
             return Ok(());
         }
-        let place = self.at.place(end);
+        let place = self.at.place();
         let head = self.at.next();
-        self.walk_parts(end, place, head, depth - 1)
+        self.walk_parts(place, head, depth - 1)
     }
 
     // A Name refers to builtins, and an Attribute of a Name to what the Name says.
     #[cycle(walk_expr_walk_list_walk_parts)]
     fn walk_parts(
         &mut self,
-        end: usize,
         place: usize,
         head: Expression<'a>,
         depth: u8,
     ) -> Result<(), AllocError>
-        ensures { OnOk result (Walks expr_put (parts_at (expr_at end depth) place (head_of head.entry)) self.old self.new) }
+        ensures { OnOk result (Walks expr_put (parts_at (expr_at self.old.at.end depth) place (head_of head.entry)) self.old self.new) }
     {
         match head {
             Expression::Name(name) => self.note(place, b"builtins", name),
@@ -62,43 +62,46 @@ impl<'a> Walker<'a> {
                     self.note(place, from, name)
                 }
                 None => {
-                    self.walk_expr(end, depth)?;
+                    self.walk_expr(depth)?;
                     self.at.text();
                     Ok(())
                 }
             },
             Expression::BinOp | Expression::Subscript => {
-                self.walk_expr(end, depth)?;
-                self.walk_expr(end, depth)
+                self.walk_expr(depth)?;
+                self.walk_expr(depth)
             }
-            Expression::Tuple(n) => self.walk_list(end, n, depth),
-            Expression::List(n) => self.walk_list(end, n, depth),
+            Expression::Tuple(n) => self.walk_list(n, depth),
+            Expression::List(n) => self.walk_list(n, depth),
             _ => Ok(()),
         }
     }
 
     // The next n expressions.
     #[cycle(walk_expr_walk_list_walk_parts)]
-    fn walk_list(&mut self, end: usize, n: u16, depth: u8) -> Result<(), AllocError>
-        ensures { OnOk result (Walks exprs_put (rows_at no_expr add_expr (expr_at end depth) n) self.old self.new) }
+    fn walk_list(&mut self, n: u16, depth: u8) -> Result<(), AllocError>
+        ensures { OnOk result (Walks exprs_put (rows_at no_expr add_expr (expr_at self.old.at.end depth) n) self.old self.new) }
     {
-        for _ in 0..n {
-            self.walk_expr(end, depth)?;
-        }
-        Ok(())
+        times(
+            n,
+            self,
+            |walker|
+                ensures { OnOk result (Walks expr_put (expr_at walker.old.at.end depth) walker.old walker.new) }
+            { walker.walk_expr(depth) },
+        )
     }
 
     // A list field of expressions: bases or decorators.
-    fn walk_exprs(&mut self, end: usize, stands: bool, depth: u8) -> Result<(), AllocError>
-        ensures { OnOk result (Walks exprs_put (exprs_at end depth stands) self.old self.new) }
+    fn walk_exprs(&mut self, stands: bool, depth: u8) -> Result<(), AllocError>
+        ensures { OnOk result (Walks exprs_put (exprs_at self.old.at.end depth stands) self.old self.new) }
     {
         let n = self.at.count(stands);
-        self.walk_list(end, n, depth)
+        self.walk_list(n, depth)
     }
 
     // A value or a default, which is not collected.
-    fn walk_value(&mut self, end: usize, stands: bool, depth: u8) -> Result<(), AllocError>
-        ensures { OnOk result (Walks value_put (any_expr_at end depth stands) self.old self.new) }
+    fn walk_value(&mut self, stands: bool, depth: u8) -> Result<(), AllocError>
+        ensures { OnOk result (Walks value_put (any_expr_at self.old.at.end depth stands) self.old self.new) }
     {
         if stands {
             self.at.skip_expr(depth);
@@ -107,145 +110,140 @@ impl<'a> Walker<'a> {
     }
 
     // An annotation, or what a function returns.
-    fn walk_annotation(&mut self, end: usize, stands: bool, depth: u8) -> Result<(), AllocError>
-        ensures { OnOk result (Walks annotation_put (any_expr_at end depth stands) self.old self.new) }
+    fn walk_annotation(&mut self, stands: bool, depth: u8) -> Result<(), AllocError>
+        ensures { OnOk result (Walks annotation_put (any_expr_at self.old.at.end depth stands) self.old self.new) }
     {
         if stands {
-            return self.walk_expr(end, depth);
+            return self.walk_expr(depth);
         }
         Ok(())
     }
 
     // The value and the annotation of an attribute, or the default and the annotation of an argument.
-    fn walk_pair(&mut self, end: usize, map: u16, depth: u8) -> Result<(), AllocError>
-        ensures { OnOk result (Walks pair_put (pair_at end depth map) self.old self.new) }
+    fn walk_pair(&mut self, map: u16, depth: u8) -> Result<(), AllocError>
+        ensures { OnOk result (Walks pair_put (pair_at self.old.at.end depth map) self.old self.new) }
     {
-        self.walk_value(end, stands(map, VALUE), depth)?;
-        self.walk_annotation(end, stands(map, ANNOTATION), depth)
+        self.walk_value(stands(map, VALUE), depth)?;
+        self.walk_annotation(stands(map, ANNOTATION), depth)
     }
 
-    fn walk_argument(&mut self, end: usize, depth: u8) -> Result<(), AllocError>
-        ensures { OnOk result (Walks argument_put (argument_at end depth) self.old self.new) }
+    fn walk_argument(&mut self, depth: u8) -> Result<(), AllocError>
+        ensures { OnOk result (Walks argument_put (argument_at self.old.at.end depth) self.old self.new) }
     {
         let map = self.at.number();
         self.at.text();
-        self.walk_pair(end, map, depth)
+        self.walk_pair(map, depth)
     }
 
-    fn walk_arguments(&mut self, end: usize, stands: bool, depth: u8) -> Result<(), AllocError>
-        ensures { OnOk result (Walks (each_put argument_put) (arguments_at end depth stands) self.old self.new) }
+    fn walk_arguments(&mut self, stands: bool, depth: u8) -> Result<(), AllocError>
+        ensures { OnOk result (Walks (each_put argument_put) (arguments_at self.old.at.end depth stands) self.old self.new) }
     {
         let n = self.at.count(stands);
-        for _ in 0..n {
-            self.walk_argument(end, depth)?;
-        }
-        Ok(())
+        times(n, self, |walker| walker.walk_argument(depth))
     }
 
     // A vararg or kwarg: it has no default.
-    fn walk_star(&mut self, end: usize, there: bool, depth: u8) -> Result<(), AllocError>
-        ensures { OnOk result (Walks (any_put star_put) (any_star_at end depth there) self.old self.new) }
+    fn walk_star(&mut self, there: bool, depth: u8) -> Result<(), AllocError>
+        ensures { OnOk result (Walks (any_put star_put) (any_star_at self.old.at.end depth there) self.old self.new) }
     {
         if !there {
             return Ok(());
         }
         let map = self.at.number();
         self.at.text();
-        self.walk_annotation(end, stands(map, ANNOTATION), depth)
+        self.walk_annotation(stands(map, ANNOTATION), depth)
     }
 
     // A function or a method.
-    pub(crate) fn walk_function(
-        &mut self,
-        end: usize,
-        depth: u8,
-    ) -> Result<Declared<'a>, AllocError>
-        ensures { IfOk result (λ v. Tells function_put function_declared (function_at end depth) self.old self.new v) }
+    pub(crate) fn walk_function(&mut self, depth: u8) -> Result<Declared<'a>, AllocError>
+        ensures { IfOk result (λ v. Tells function_put function_declared (function_at self.old.at.end depth) self.old self.new v) }
     {
-        let place = self.at.place(end);
+        let place = self.at.place();
         let map = self.at.number();
         let name = self.at.text();
-        self.walk_exprs(end, stands(map, FUNCTION_DECORATORS), depth)?;
-        self.walk_arguments(end, stands(map, FUNCTION_POSITIONAL), depth)?;
-        self.walk_arguments(end, stands(map, FUNCTION_REGULAR), depth)?;
-        self.walk_star(end, stands(map, FUNCTION_VARARG), depth)?;
-        self.walk_arguments(end, stands(map, FUNCTION_KEYWORD), depth)?;
-        self.walk_star(end, stands(map, FUNCTION_KWARG), depth)?;
-        self.walk_annotation(end, stands(map, FUNCTION_RETURNS), depth)?;
+        self.walk_exprs(stands(map, FUNCTION_DECORATORS), depth)?;
+        self.walk_arguments(stands(map, FUNCTION_POSITIONAL), depth)?;
+        self.walk_arguments(stands(map, FUNCTION_REGULAR), depth)?;
+        self.walk_star(stands(map, FUNCTION_VARARG), depth)?;
+        self.walk_arguments(stands(map, FUNCTION_KEYWORD), depth)?;
+        self.walk_star(stands(map, FUNCTION_KWARG), depth)?;
+        self.walk_annotation(stands(map, FUNCTION_RETURNS), depth)?;
         Ok(Declared { place, name })
     }
 
     // An attribute of a class or a module.
-    pub(crate) fn walk_attribute(
-        &mut self,
-        end: usize,
-        depth: u8,
-    ) -> Result<Declared<'a>, AllocError>
-        ensures { IfOk result (λ v. Tells attribute_put attribute_declared (attribute_at end depth) self.old self.new v) }
+    pub(crate) fn walk_attribute(&mut self, depth: u8) -> Result<Declared<'a>, AllocError>
+        ensures { IfOk result (λ v. Tells attribute_put attribute_declared (attribute_at self.old.at.end depth) self.old self.new v) }
     {
-        let place = self.at.place(end);
+        let place = self.at.place();
         let map = self.at.number();
         let name = self.at.text();
-        self.walk_pair(end, map, depth)?;
+        self.walk_pair(map, depth)?;
         Ok(Declared { place, name })
     }
 
-    fn walk_methods(&mut self, end: usize, stands: bool, depth: u8) -> Result<(), AllocError>
-        ensures { OnOk result (Walks (each_put function_put) (functions_at end depth stands) self.old self.new) }
+    fn walk_methods(&mut self, stands: bool, depth: u8) -> Result<(), AllocError>
+        ensures { OnOk result (Walks (each_put function_put) (functions_at self.old.at.end depth stands) self.old self.new) }
     {
         let n = self.at.count(stands);
-        for _ in 0..n {
-            self.walk_function(end, depth)?;
-        }
-        Ok(())
+        times(n, self, |walker| {
+            walker.walk_function(depth)?;
+            Ok(())
+        })
     }
 
-    fn walk_attributes(&mut self, end: usize, stands: bool, depth: u8) -> Result<(), AllocError>
-        ensures { OnOk result (Walks (each_put attribute_put) (attributes_at end depth stands) self.old self.new) }
+    fn walk_attributes(&mut self, stands: bool, depth: u8) -> Result<(), AllocError>
+        ensures { OnOk result (Walks (each_put attribute_put) (attributes_at self.old.at.end depth stands) self.old self.new) }
     {
         let n = self.at.count(stands);
-        for _ in 0..n {
-            self.walk_attribute(end, depth)?;
-        }
-        Ok(())
+        times(n, self, |walker| {
+            walker.walk_attribute(depth)?;
+            Ok(())
+        })
     }
 
     // A class, which is empty where the tree may go no deeper.
     #[cycle(walk_class_walk_class_record_walk_classes)]
-    pub(crate) fn walk_class(&mut self, end: usize, depth: u8) -> Result<Declared<'a>, AllocError>
-        ensures { IfOk result (λ v. Tells class_put class_declared (class_at end depth) self.old self.new v) }
+    pub(crate) fn walk_class(&mut self, depth: u8) -> Result<Declared<'a>, AllocError>
+        ensures { IfOk result (λ v. Tells class_put class_declared (class_at self.old.at.end depth) self.old self.new v) }
     {
         if depth == 0 {
-            let place = self.at.place(end);
+            let place = self.at.place();
             return Ok(Declared { place, name: b"" });
         }
-        self.walk_class_record(end, depth - 1)
+        self.walk_class_record(depth - 1)
     }
 
     // A class whose parts may go this deep.
     #[cycle(walk_class_walk_class_record_walk_classes)]
-    fn walk_class_record(&mut self, end: usize, depth: u8) -> Result<Declared<'a>, AllocError>
-        ensures { IfOk result (λ v. Tells class_put class_declared (class_over_at end depth (class_at end depth)) self.old self.new v) }
+    fn walk_class_record(&mut self, depth: u8) -> Result<Declared<'a>, AllocError>
+        ensures { IfOk result (λ v. Tells class_put class_declared (class_over_at self.old.at.end depth (class_at self.old.at.end depth)) self.old self.new v) }
     {
-        let place = self.at.place(end);
+        let place = self.at.place();
         let map = self.at.number();
         let name = self.at.text();
-        self.walk_exprs(end, stands(map, CLASS_BASES), depth)?;
-        self.walk_methods(end, stands(map, CLASS_METHODS), depth)?;
-        self.walk_attributes(end, stands(map, CLASS_ATTRIBUTES), depth)?;
-        self.walk_exprs(end, stands(map, CLASS_DECORATORS), depth)?;
-        self.walk_classes(end, stands(map, CLASS_INNER), depth)?;
+        self.walk_exprs(stands(map, CLASS_BASES), depth)?;
+        self.walk_methods(stands(map, CLASS_METHODS), depth)?;
+        self.walk_attributes(stands(map, CLASS_ATTRIBUTES), depth)?;
+        self.walk_exprs(stands(map, CLASS_DECORATORS), depth)?;
+        self.walk_classes(stands(map, CLASS_INNER), depth)?;
         Ok(Declared { place, name })
     }
 
     #[cycle(walk_class_walk_class_record_walk_classes)]
-    fn walk_classes(&mut self, end: usize, stands: bool, depth: u8) -> Result<(), AllocError>
-        ensures { OnOk result (Walks classes_put (classes_at end depth stands) self.old self.new) }
+    fn walk_classes(&mut self, stands: bool, depth: u8) -> Result<(), AllocError>
+        ensures { OnOk result (Walks classes_put (classes_at self.old.at.end depth stands) self.old self.new) }
     {
         let n = self.at.count(stands);
-        for _ in 0..n {
-            self.walk_class(end, depth)?;
-        }
-        Ok(())
+        times(
+            n,
+            self,
+            |walker|
+                ensures { OnOk result (Walks class_put (class_at walker.old.at.end depth) walker.old walker.new) }
+            {
+                walker.walk_class(depth)?;
+                Ok(())
+            },
+        )
     }
 }

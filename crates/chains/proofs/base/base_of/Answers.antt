@@ -1,17 +1,12 @@
-use Rattle.std.proofs.Common.{arith}
-use Rattle.chains.proofs.Dots.{none_from_end, none-back, base-found, base-none}
+use Rattle.std.proofs.Common.{rules, sym, ap, ◌∙◌}
+use Rattle.chains.specs.Chains.{base_of}
+use Rattle.chains.proofs.Dots.{none-from, before-none, before_at}
 use Rattle.chains.proofs.base.base_of.Goals as goal
 
-pub loop-end-init : goal.loop-end-init
-loop-end-init c = (omega arith, none_from_end c.args.own.now)
+pub returns-in-Some : goal.returns-in-Some
+returns-in-Some c =
+    before_at c.args.own.now c.in-Some.dot (search rules) (search rules) (search rules) ∙ ap (base_of c.args.own.now) (sym c.if-package.false)
 
-pub returns-then-own-end-eq46 : goal.returns-then-own-end-eq46
-returns-then-own-end-eq46 c =
-    base-found c.args.own.now c.args.package c.loop-end.end c.if-package.false c.loop-end-test.true c.loop-end.invariant.0 c.loop-end.invariant.1 c.if-own-end-eq46.true
-
-pub loop-end-preserved : goal.loop-end-preserved
-loop-end-preserved c =
-    (omega arith, none-back c.args.own.now c.loop-end.end c.loop-end-test.true c.loop-end.invariant.0 c.loop-end.invariant.1 c.if-own-end-eq46.false)
-
-pub returns : goal.returns
-returns c = base-none c.args.own.now c.args.package c.loop-end.end c.if-package.false c.loop-end-test.false c.loop-end.invariant.1
+pub returns-in-None : goal.returns-in-None
+returns-in-None c =
+    sym (before-none c.args.own.now (none-from c.args.own.now (search rules))) ∙ ap (base_of c.args.own.now) (sym c.if-package.false)

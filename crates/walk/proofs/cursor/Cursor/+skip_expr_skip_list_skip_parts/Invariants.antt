@@ -13,4 +13,6 @@ decreases-skip_parts l = 3 * l.depth + 2
 
 -- what is left to pass leads where all of it leads
 abbrev pub invariant-skip_list-loop : goal.invariant-skip_list-loop
-invariant-skip_list-loop l = skips (skip l.depth) (l.n - l.counter) l.self.rest.now ≡ skips (skip l.depth) l.n l.initial.self.rest.now
+invariant-skip_list-loop l =
+    (l.self.end ≡ l.initial.self.end)
+    × (skips (skip l.depth) (l.n - l.counter) l.self.rest.now ≡ skips (skip l.depth) l.n l.initial.self.rest.now)

@@ -6,4 +6,4 @@ use Rattle.walk.proofs.walker.Walker.note.Goals as goal
 
 pub returns : goal.returns
 returns c =
-    record { rest = refl; uses = ap (λ (xs : List Use). map use_of xs) c.in_ok-push.ensures.items ∙ map_push use_of (vec_items c.args.self.now.uses) _ }
+    record { rest = refl; end = refl; uses = ap (λ (xs : List Use). map use_of xs) c.in_ok-push.ensures.items ∙ map_push use_of (vec_items c.args.self.now.uses) _ }

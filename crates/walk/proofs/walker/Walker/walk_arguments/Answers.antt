@@ -1,9 +1,10 @@
-use Rattle.std.proofs.Common.{[], ◌∷◌, refl, arith}
+use Rattle.std.proofs.Common.{rules, [], ◌∷◌, refl}
 use Rattle.walk.specs.Total.{argument}
 use Rattle.walk.specs.Puts.{each_put, argument_put}
-use Rattle.walk.proofs.Going.{sofar_more}
+use Rattle.walk.proofs.Going.{made_by}
+use Rattle.walk.proofs.Repeating.{walks_listed}
 use Rattle.walk.proofs.walker.Walker.walk_arguments.Goals as goal
 
-pub loop-preserved : goal.loop-preserved
-loop-preserved c =
-    sofar_more [] ◌∷◌ (argument c.args.end c.args.depth) argument_put (each_put argument_put) (λ a l s. refl) c.count-n.result c.loop.counter _ _ _ _ _ _ (omega arith) c.loop.invariant c.in_ok-walk_argument.ensures.rest c.in_ok-walk_argument.ensures.uses
+pub returns : goal.returns
+returns c =
+    made_by c.times.result c.times.ensures (walks_listed [] ◌∷◌ (λ end. argument end c.args.depth) argument_put (each_put argument_put) (λ x. refl) (λ a l x. refl) _ (λ s t x. search rules) c.args.stands c.count-n.result c.args.self.now _ _ c.count-n.ensures.is c.count-n.ensures.rest c.count-n.ensures.end refl)

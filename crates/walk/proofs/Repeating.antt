@@ -1,0 +1,78 @@
+-- What so many steps lead to.
+use Rattle.std.proofs.Common.{◌≡◌, ℕ, zero, suc, ◌+◌, ◌-◌, ◌<◌, Bool, List, [], ◌∷◌, ◌++◌, vec_items, map, Ok, Result, refl, ap, ◌∙◌, subst, arith, MutBor}
+use Rattle.std.specs.Fn.{Shared}
+use Rattle.walk.specs.Repeats.{Steps, Repeats}
+use Rattle.walk.specs.Total.{rows, count, listed}
+use Rattle.std.proofs.lemmas.List.{map_push}
+use Rattle.walk.specs.Puts.{Gathered, own_put}
+use Rattle.model.specs.Steps.{declared_of}
+use Rattle.walk.specs.Walks.{Walks, Tells, Owns, left, uses_of, gathered}
+use Rattle.std.specs.declared.alloc.AllocError.{AllocError}
+use Rattle.model.specs.declared.uses.Declared.{Declared as DeclaredOf}
+use Rattle.walk.specs.Collects.{Declares}
+use Rattle.walk.specs.declared.walker.Walker.{Walker}
+use Rattle.walk.specs.declared.collector.Collector.{Collector}
+use Rattle.model.specs.Uses.{Use, Declared}
+
+pub step_made : {F S R E : Type 0} (g : Shared F (MutBor S × Unit {0}) (Result R E × (MutBor S × Unit {0}))) (f : F) (x y : MutBor S) (r : Result R E) (v : R) → r ≡ Ok v → g.post f (x, tt) (r, (y, tt)) → Steps g f x.now y.now
+step_made g f x y r v e h = record { shown = x; shows = refl; value = v; left = y; met = subst (λ o. g.post f (x, tt) (o, (y, tt))) e h; leaves = refl }
+
+pub declares_made : {F : Type 0} (g : Shared F (MutBor Walker × (ℕ × Unit {0})) (Result DeclaredOf AllocError × (MutBor Walker × Unit {0}))) (f : F) (depth : ℕ) (x y : MutBor Walker) (r : Result DeclaredOf AllocError) (one : DeclaredOf) (s t : Collector) → r ≡ Ok one → g.post f (x, (depth, tt)) (r, (y, tt)) → x.now ≡ s.walker → y.now ≡ t.walker → vec_items t.declared ≡ vec_items s.declared ++ one ∷ [] → Declares g f depth s t
+declares_made g f depth x y r one s t e h ex ey ed = record { shown = x; shows = ex; one = one; left = y; met = subst (λ o. g.post f (x, (depth, tt)) (o, (y, tt))) e h; leaves = ey; declared = ed }
+
+pub repeats_more : {S : Type 0} (step : S → S → Type 0) (n i : ℕ) (s m t : S) → i < n → step s m → Repeats step (n - (i + 1)) m t → Repeats step (n - i) s t
+repeats_more step n i s m t h one more = let e : n - i ≡ suc (n - (i + 1)) = omega arith in rw e (m, one, more)
+
+-- from s to t, what `one` reads was read, and put to what was there
+abbrev pub Read : {S T X : Type 0} → (S → List ℕ) → (S → ℕ) → (S → T) → (X → T → T) → (List ℕ → X × List ℕ) → S → S → Type 0
+Read rest end state put one s t = (rest t ≡ (one (rest s)).1) × (state t ≡ put (one (rest s)).0 (state s)) × (end t ≡ end s)
+
+module _ {S T A L : Type 0} (rest : S → List ℕ) (end : S → ℕ) (state : S → T) (none : L) (more : A → L → L) (one : ℕ → List ℕ → A × List ℕ) (put : A → T → T) (all : L → T → T) where
+  pub repeated : ((x : T) → x ≡ all none x) → ((a : A) (l : L) (x : T) → all l (put a x) ≡ all (more a l) x) → (step : S → S → Type 0) → ((s t : S) → step s t → Read rest end state put (one (end s)) s t) → (n e : ℕ) (s t : S) → end s ≡ e → Repeats step n s t → Read rest end state all (rows none more (one e) n) s t
+  repeated nothing cons step reads zero e s t same is = (ap rest is, ap state is ∙ nothing (state s), ap end is)
+  repeated nothing cons step reads (suc n) e s t same r =
+      let m = r.0 in
+      let a = reads s m r.1 in
+      let b = repeated nothing cons step reads n e m t (a.2 ∙ same) r.2 in
+      let at : one (end s) (rest s) ≡ one e (rest s) = ap (λ k. one k (rest s)) same in
+      let er : rest m ≡ (one e (rest s)).1 = a.0 ∙ ap (λ o. o.1) at in
+      (b.0 ∙ ap (λ x. (rows none more (one e) n x).1) er, b.1 ∙ ((λ i. all (rows none more (one e) n (er i)).0 ((a.1 ∙ ap (λ o. put o.0 (state s)) at) i)) ∙ cons _ _ (state s)), b.2 ∙ a.2)
+
+-- a walk over items, and one over a list field, which is its count and then as many items
+module _ {A L : Type 0} (none : L) (more : A → L → L) (one : ℕ → List ℕ → A × List ℕ) (put : A → List Use → List Use) (all : L → List Use → List Use) (nothing : (x : List Use) → x ≡ all none x) (cons : (a : A) (l : L) (x : List Use) → all l (put a x) ≡ all (more a l) x) (step : Walker → Walker → Type 0) (walks : (s t : Walker) → step s t → Walks put (one s.at.end) s t) where
+  pub walks_rows : (n : ℕ) (w0 w1 : Walker) → Repeats step n w0 w1 → Walks all (rows none more (one w0.at.end) n) w0 w1
+  walks_rows n w0 w1 r =
+      let g = repeated left (λ w. w.at.end) uses_of none more one put all nothing cons step (λ s t x. let w = walks s t x in (w.rest, w.uses, w.end)) n w0.at.end w0 w1 refl r in
+      record { rest = g.0; uses = g.1; end = g.2 }
+
+  pub walks_listed : (stands : Bool) (n : ℕ) (w0 w1 w2 : Walker) → n ≡ (count stands (left w0)).0 → left w1 ≡ (count stands (left w0)).1 → w1.at.end ≡ w0.at.end → uses_of w1 ≡ uses_of w0 → Repeats step n w1 w2 → Walks all (listed none more (one w0.at.end) stands) w0 w2
+  walks_listed stands n w0 w1 w2 en el ee eu r =
+      let g = walks_rows n w1 w2 r in
+      record {
+        rest = g.rest ∙ (λ i. (rows none more (one (ee i)) (en i) (el i)).1);
+        uses = g.uses ∙ (λ i. all (rows none more (one (ee i)) (en i) (el i)).0 (eu i));
+        end = g.end ∙ ee;
+      }
+
+-- and over a field of a module, of which each record tells what it declares
+abbrev all_left : Collector → List ℕ
+all_left c = left c.walker
+
+abbrev all_gathered : Collector → Gathered
+all_gathered c = gathered c.walker (vec_items c.declared)
+
+module _ {A L F : Type 0} (none : L) (more : A → L → L) (one : ℕ → List ℕ → A × List ℕ) (put : A → List Use → List Use) (tell : A → Declared) (all : L → Gathered → Gathered) (nothing : (x : Gathered) → x ≡ all none x) (cons : (a : A) (l : L) (x : Gathered) → all l (own_put put tell a x) ≡ all (more a l) x) (g : Shared F (MutBor Walker × (ℕ × Unit {0})) (Result DeclaredOf AllocError × (MutBor Walker × Unit {0}))) (f : F) where
+  told : ((x y : MutBor Walker) (d : DeclaredOf) → g.post f (x, (64, tt)) (Ok d, (y, tt)) → Tells put tell (one x.now.at.end) x.now y.now d) → (s t : Collector) → Declares g f 64 s t → Read all_left (λ c. c.walker.at.end) all_gathered (own_put put tell) (one s.walker.at.end) s t
+  told tells s t d =
+      let w : Tells put tell (one s.walker.at.end) s.walker t.walker d.one = subst (λ w. Tells put tell (one w.at.end) w t.walker d.one) d.shows (subst (λ w. Tells put tell (one d.shown.now.at.end) d.shown.now w d.one) d.leaves (tells d.shown d.left d.one d.met)) in
+      let ds : map declared_of (vec_items t.declared) ≡ map declared_of (vec_items s.declared) ++ declared_of d.one ∷ [] = ap (map declared_of) d.declared ∙ map_push declared_of (vec_items s.declared) d.one in
+      (w.rest, λ i. (w.uses i, (ds ∙ ap (λ (x : Declared). map declared_of (vec_items s.declared) ++ x ∷ []) w.declared) i), w.end)
+
+  pub owned : (stands : Bool) (n : ℕ) (c0 c1 c2 : Collector) → n ≡ (count stands (all_left c0)).0 → all_left c1 ≡ (count stands (all_left c0)).1 → c1.walker.at.end ≡ c0.walker.at.end → all_gathered c1 ≡ all_gathered c0 → Repeats (Declares g f 64) n c1 c2 → ((x y : MutBor Walker) (d : DeclaredOf) → g.post f (x, (64, tt)) (Ok d, (y, tt)) → Tells put tell (one x.now.at.end) x.now y.now d) → Owns all (listed none more (one c0.walker.at.end) stands) c0.walker c2.walker (vec_items c0.declared) (vec_items c2.declared)
+  owned stands n c0 c1 c2 en el ee eg r tells =
+      let x = repeated all_left (λ c. c.walker.at.end) all_gathered none more one (own_put put tell) all nothing cons (Declares g f 64) (told tells) n c1.walker.at.end c1 c2 refl r in
+      record {
+        rest = x.0 ∙ (λ i. (rows none more (one (ee i)) (en i) (el i)).1);
+        state = x.1 ∙ (λ i. all (rows none more (one (ee i)) (en i) (el i)).0 (eg i));
+        end = x.2 ∙ ee;
+      }

@@ -1,5 +1,0 @@
-use Rattle.walk.proofs.Cuts.{drop-cut}
-use Rattle.walk.proofs.cursor.Cursor.at.Goals as goal
-
-pub returns : goal.returns
-returns c = drop-cut c.args.place c.min-start.result c.args.model.now c.min-start.ensures

@@ -1,0 +1,14 @@
+use Rattle.std.proofs.Common.{◌+◌, ◌*◌}
+use Rattle.walk.proofs.walker.+walk_class_walk_class_record_walk_classes.Given as goal
+
+abbrev pub decreases-Walker::walk_class : goal.decreases-Walker::walk_class
+decreases-Walker::walk_class l = 4 * l.depth
+
+abbrev pub decreases-Walker::walk_classes-times : goal.decreases-Walker::walk_classes-times
+decreases-Walker::walk_classes-times l = 4 * l.depth + 1
+
+abbrev pub decreases-Walker::walk_classes : goal.decreases-Walker::walk_classes
+decreases-Walker::walk_classes l = 4 * l.depth + 2
+
+abbrev pub decreases-Walker::walk_class_record : goal.decreases-Walker::walk_class_record
+decreases-Walker::walk_class_record l = 4 * l.depth + 3
