@@ -2,7 +2,7 @@
 ghost use Rattle.commands.specs.Calls.{Means};
 
 // A call, as its line writes it; the digits of a model are not read yet.
-#[derive(Clone, Copy)]
+#[derive(Clone, Copy, Debug, PartialEq, Eq)]
 pub enum Call<'a> {
     Load(&'a [u8]),
     Count,
@@ -13,17 +13,12 @@ pub enum Call<'a> {
 pub(crate) fn call_of(line: &[u8]) -> Call<'_>
     ensures { Means line.now result }
 {
-    if line == b"load".as_slice() {
-        return Call::Load(&[]);
+    match line {
+        b"load" => Call::Load(&[]),
+        b"count" => Call::Count,
+        _ => match line.strip_prefix(b"load ") {
+            Some(digits) if !digits.is_empty() && !digits.contains(&b' ') => Call::Load(digits),
+            _ => Call::Unknown,
+        },
     }
-    if line == b"count".as_slice() {
-        return Call::Count;
-    }
-    let Some(digits) = line.strip_prefix(b"load ") else {
-        return Call::Unknown;
-    };
-    if digits.is_empty() || digits.contains(&b' ') {
-        return Call::Unknown;
-    }
-    Call::Load(digits)
 }

@@ -1,33 +1,31 @@
 // `pumpsooner check`: a line for each file.
 ghost use Rattle.std.specs.Prelude.{Some};
-ghost use Rattle.commands.specs.Replies.{ChecksModel};
 ghost use Rattle.commands.specs.Checks.{ChecksFile};
 ghost use Rattle.commands.specs.Texts.{verdict_text};
 
-use crate::report::{Failure, cause};
-use session::Session;
+use crate::report::cause;
+use session::{Fault, Session};
 use std::alloc::Global;
 use std::env::Args;
 use std::{fmt, fs, io};
 
+// How many files a model has, or why it is not loaded.
 #[derive(Clone, Copy)]
-enum Verdict {
-    Loaded(usize),
-    Refused(u8, usize),
-    Memory,
-}
+struct Verdict(Result<usize, Fault>);
 
 impl fmt::Display for Verdict {
-    ghost output = { λ v. Some (verdict_text v) };
+    ghost output = { λ v. Some (verdict_text v.0) };
 
     fn fmt<W: fmt::Write>(&self, f: &mut fmt::Formatter<W>) -> fmt::Result {
-        match self {
-            Verdict::Loaded(files) => write!(f, "loaded, {files} files"),
-            Verdict::Refused(number, place) => {
-                let cause = cause(*number);
-                write!(f, "refused {number} at {place}: {cause}")
+        match self.0 {
+            Ok(files) => write!(f, "loaded, {files} files"),
+            Err(fault) => {
+                let cause = cause(&fault);
+                match fault.told() {
+                    Some((number, place)) => write!(f, "refused {number} at {place}: {cause}"),
+                    None => write!(f, "not checked: {cause}"),
+                }
             }
-            Verdict::Memory => f.write_str("not checked: out of memory"),
         }
     }
 }
@@ -36,9 +34,7 @@ impl fmt::Display for Verdict {
 pub(crate) fn files(rt: &HostRuntime, names: Args) -> io::Result<bool> {
     let mut all = true;
     for name in names {
-        if !file(rt, name.as_str())? {
-            all = false;
-        }
+        all &= file(rt, name.as_str())?;
     }
     Ok(all)
 }
@@ -52,8 +48,10 @@ fn file(rt: &HostRuntime, name: &str) -> io::Result<bool> {
             return Ok(false);
         }
     };
-    let verdict = verdict_of(rt.alloc(), model.as_slice());
-    if let Verdict::Memory = verdict {
+    let verdict = Verdict(files_of(rt.alloc(), model.as_slice()));
+    if let Verdict(Err(fault)) = verdict
+        && fault.told().is_none()
+    {
         let _ = eprintln!(rt; "{name}: {verdict}");
         return Ok(false);
     }
@@ -61,22 +59,11 @@ fn file(rt: &HostRuntime, name: &str) -> io::Result<bool> {
     Ok(true)
 }
 
-fn verdict_of(heap: Global, model: &[u8]) -> Verdict
-    ensures { ChecksFile model.now result }
-{
-    match files_of(heap, model) {
-        Ok(files) => Verdict::Loaded(files),
-        Err(Failure::Refused(number, place)) => Verdict::Refused(number, place),
-        Err(Failure::Memory) => Verdict::Memory,
-    }
-}
-
 // How many files the model has, in a session of its own.
-fn files_of(heap: Global, model: &[u8]) -> Result<usize, Failure>
-    ensures { ChecksModel model.now result }
+fn files_of(heap: Global, model: &[u8]) -> Result<usize, Fault>
+    ensures { ChecksFile model.now result }
 {
     let mut session = Session::new(heap);
     session.load(model)?;
-    let files = session.count()?;
-    Ok(files)
+    session.count()
 }

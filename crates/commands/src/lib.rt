@@ -5,23 +5,20 @@ ghost use Rattle.commands.specs.Words.{Asks};
 
 mod call;
 mod check;
-mod hex;
+mod digits;
 mod report;
 mod serve;
 
+use std::process::ExitCode;
 use std::{env, io};
 
 // What the command line asks for.
-#[derive(Clone, Copy)]
+#[derive(Clone, Copy, Debug, PartialEq, Eq)]
 enum Command {
     Check,
     Session,
     Unknown,
 }
-
-// Not all was done that was asked; what there is to say was printed.
-#[derive(Clone, Copy)]
-pub struct Failed;
 
 const USAGE: &str = "usage: pumpsooner check FILE..
            checks each FILE as a packed model, and prints a line for each:
@@ -29,14 +26,15 @@ const USAGE: &str = "usage: pumpsooner check FILE..
        pumpsooner session
            answers the calls on standard input, one a line: load HEX, count";
 
-// Runs the command that the program's arguments name.
-pub fn run(rt: &HostRuntime) -> Result<(), Failed> {
+// Runs the command that the program's arguments name, and answers the program's status: what there is to say of a failure is
+// printed.
+pub fn run(rt: &HostRuntime) -> ExitCode {
     match run_command(rt) {
-        Ok(true) => Ok(()),
-        Ok(false) => Err(Failed),
+        Ok(true) => ExitCode::SUCCESS,
+        Ok(false) => ExitCode::FAILURE,
         Err(e) => {
             let _ = eprintln!(rt; "pumpsooner: {e}");
-            Err(Failed)
+            ExitCode::FAILURE
         }
     }
 }
@@ -65,12 +63,10 @@ fn run_command(rt: &HostRuntime) -> io::Result<bool> {
 fn command_of(word: &str, more: usize) -> Command
     ensures { Asks word.now more result }
 {
-    if word == "check" && more > 0 {
-        Command::Check
-    } else if word == "session" && more == 0 {
-        Command::Session
-    } else {
-        Command::Unknown
+    match (word, more) {
+        ("check", 1..) => Command::Check,
+        ("session", 0) => Command::Session,
+        _ => Command::Unknown,
     }
 }
 

@@ -1,53 +1,49 @@
 // Why a model was not loaded or counted, and the words for it.
 ghost use Rattle.std.specs.Prelude.{◌≡◌, Some};
-ghost use Rattle.session.specs.Answers.{told as told_of};
-ghost use Rattle.commands.specs.Replies.{failure_of};
-ghost use Rattle.commands.specs.Texts.{cause_text, failure_text};
+ghost use Rattle.session.specs.Answers.{told};
+ghost use Rattle.commands.specs.Texts.{cause_of, failure_text};
 
+use resolver::Fault as Unresolved;
 use session::Fault;
 use std::fmt;
+use verdict::Refusal;
 
+// A fault, as the session's answer shows it.
 #[derive(Clone, Copy)]
-pub enum Failure {
-    Refused(u8, usize),
-    Memory,
-}
-
-impl From<Fault> for Failure {
-    ghost from_gives = { λ e r. r ≡ failure_of (told_of e) };
-
-    fn from(fault: Fault) -> Failure {
-        match fault.told() {
-            Some((number, place)) => Failure::Refused(number, place),
-            None => Failure::Memory,
-        }
-    }
-}
+pub struct Failure(pub Fault);
 
 impl fmt::Display for Failure {
-    ghost output = { λ f. Some (failure_text f) };
+    ghost output = { λ f. Some (failure_text f.0) };
 
     fn fmt<W: fmt::Write>(&self, f: &mut fmt::Formatter<W>) -> fmt::Result {
-        match self {
-            Failure::Refused(number, place) => write!(f, "refused {number} at {place}"),
-            Failure::Memory => f.write_str("out of memory"),
+        match self.0.told() {
+            Some((number, place)) => write!(f, "refused {number} at {place}"),
+            None => f.write_str("out of memory"),
         }
     }
 }
 
-// What a refusal's number means.
-pub(crate) fn cause(number: u8) -> &'static str
-    ensures { result.now ≡ cause_text number }
+// What there is to say of a fault.
+pub(crate) fn cause(fault: &Fault) -> &'static str
+    ensures { result.now ≡ cause_of (told fault.now) }
 {
-    match number {
-        1 => "empty or over 16,384 bytes",
-        2 => "layout or depth",
-        3 => "name",
-        4 => "number or string",
-        5 => "two sibling modules of one name",
-        6 => "attribute with neither annotation nor value",
-        7 => "too many modules, names or references",
-        8 => "no model",
-        _ => "unknown cause",
+    match fault {
+        Fault::Reader(Refusal::Size) => "empty or over 16,384 bytes",
+        Fault::Reader(Refusal::Layout(_)) => "layout or depth",
+        Fault::Reader(Refusal::Name(_)) => "name",
+        Fault::Reader(Refusal::Value(_)) => "number or string",
+        Fault::Reader(Refusal::Sibling(_)) => "two sibling modules of one name",
+        Fault::Reader(Refusal::Empty(_)) => "attribute with neither annotation nor value",
+        Fault::Reader(Refusal::Limit(_)) => "too many modules, names or references",
+        Fault::NoModel => "no model",
+        // these are answers of `local`, which the program does not call
+        Fault::Resolver(Unresolved::Undeclared(_))
+        | Fault::Resolver(Unresolved::Exhausted(_))
+        | Fault::Resolver(Unresolved::Uncollected)
+        | Fault::NoFile
+        | Fault::Room(_) => "unknown cause",
+        Fault::Reader(Refusal::Memory) | Fault::Resolver(Unresolved::Memory) | Fault::Memory => {
+            "out of memory"
+        }
     }
 }

@@ -1,34 +1,37 @@
 // `pumpsooner session`: an answer for each call on standard input.
 ghost use Rattle.std.specs.Prelude.{◌≡◌, Some};
 ghost use Rattle.session.specs.Calls.{count_of};
-ghost use Rattle.commands.specs.Replies.{Ends, Replies, Loading, LoadingBytes, counted};
+ghost use Rattle.commands.specs.Replies.{Ends, Replies, Loading, counted};
 ghost use Rattle.commands.specs.Texts.{answer_text};
 
 use crate::call::{Call, call_of};
-use crate::hex::unhex;
+use crate::digits::unhex;
 use crate::report::Failure;
-use session::Session;
+use session::{Fault, Session};
 use std::alloc::Global;
 use std::io::{BufRead, BufReader, BufWriter, Write};
 use std::{fmt, io};
 
-#[derive(Clone, Copy)]
+#[derive(Clone, Copy, Debug, PartialEq, Eq)]
 enum Answer {
     Loaded,
     Count(usize),
-    Failed(Failure),
     Unknown,
 }
 
-impl fmt::Display for Answer {
-    ghost output = { λ a. Some (answer_text a) };
+// The line that answers a line.
+#[derive(Clone, Copy)]
+struct Reply(Result<Answer, Fault>);
+
+impl fmt::Display for Reply {
+    ghost output = { λ r. Some (answer_text r.0) };
 
     fn fmt<W: fmt::Write>(&self, f: &mut fmt::Formatter<W>) -> fmt::Result {
-        match self {
-            Answer::Loaded => f.write_str("loaded"),
-            Answer::Count(files) => write!(f, "count {files}"),
-            Answer::Failed(failure) => write!(f, "{failure}"),
-            Answer::Unknown => f.write_str("unknown call"),
+        match self.0 {
+            Ok(Answer::Loaded) => f.write_str("loaded"),
+            Ok(Answer::Count(files)) => write!(f, "count {files}"),
+            Ok(Answer::Unknown) => f.write_str("unknown call"),
+            Err(fault) => write!(f, "{}", Failure(fault)),
         }
     }
 }
@@ -40,6 +43,7 @@ pub(crate) fn session(rt: &HostRuntime) -> io::Result<bool> {
     let mut input = BufReader::new(heap, rt.stdin())?;
     let mut output = BufWriter::new(heap, rt.stdout())?;
     let mut line = Vec::new(heap);
+    // no iterator of lines, since that would hold the reader, whose buffer is looked at in each turn
     for _ in 0..u64::MAX {
         // before a wait for the next call, all answers are out
         if !input.buffer().contains(&b'\n') {
@@ -49,8 +53,8 @@ pub(crate) fn session(rt: &HostRuntime) -> io::Result<bool> {
         if input.read_until(b'\n', &mut line)? == 0 {
             break;
         }
-        let answer = reply_to(heap, &mut session, without_newline(line.as_slice()));
-        writeln!(output, "{answer}")?;
+        let reply = Reply(reply_to(heap, &mut session, without_newline(line.as_slice())));
+        writeln!(output, "{reply}")?;
     }
     output.flush()?;
     Ok(true)
@@ -60,47 +64,32 @@ pub(crate) fn session(rt: &HostRuntime) -> io::Result<bool> {
 fn without_newline(line: &[u8]) -> &[u8]
     ensures { Ends line.now result.now }
 {
-    match line.strip_suffix(b"\n") {
-        Some(text) => text,
-        None => line,
-    }
+    line.strip_suffix(b"\n").unwrap_or(line)
 }
 
 // The answer to a line. One that is no call leaves the session as it is.
-fn reply_to(heap: Global, session: &mut Session, line: &[u8]) -> Answer
+fn reply_to(heap: Global, session: &mut Session, line: &[u8]) -> Result<Answer, Fault>
     ensures { Replies line.now session.old.bytes.items session.new.bytes.items result }
 {
     match call_of(line) {
         Call::Load(digits) => load(heap, session, digits),
         Call::Count => count(session),
-        Call::Unknown => Answer::Unknown,
+        Call::Unknown => Ok(Answer::Unknown),
     }
 }
 
-fn load(heap: Global, session: &mut Session, digits: &[u8]) -> Answer
+fn load(heap: Global, session: &mut Session, digits: &[u8]) -> Result<Answer, Fault>
     ensures { Loading digits.now session.old.bytes.items session.new.bytes.items result }
 {
-    match unhex(heap, digits) {
-        Ok(Some(model)) => load_bytes(session, model.as_slice()),
-        Ok(None) => Answer::Unknown,
-        Err(_) => Answer::Failed(Failure::Memory),
-    }
+    let Some(model) = unhex(heap, digits)? else {
+        return Ok(Answer::Unknown);
+    };
+    session.load(model.as_slice())?;
+    Ok(Answer::Loaded)
 }
 
-fn load_bytes(session: &mut Session, model: &[u8]) -> Answer
-    ensures { LoadingBytes model.now session.old.bytes.items session.new.bytes.items result }
-{
-    match session.load(model) {
-        Ok(()) => Answer::Loaded,
-        Err(fault) => Answer::Failed(fault.into()),
-    }
-}
-
-fn count(session: &Session) -> Answer
+fn count(session: &Session) -> Result<Answer, Fault>
     ensures { result ≡ counted (count_of session.now.bytes.items) }
 {
-    match session.count() {
-        Ok(files) => Answer::Count(files),
-        Err(fault) => Answer::Failed(fault.into()),
-    }
+    session.count().map(Answer::Count)
 }

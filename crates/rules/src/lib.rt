@@ -6,22 +6,16 @@ ghost use Rattle.rules.specs.Refusals.{RefusesFirst};
 ghost use Rattle.rules.specs.Cases.{CasesHold, table};
 
 // The verdict accepts exactly the models that load.
-pub fn loads_exactly() -> u8
+pub fn loads_exactly()
     ensures { LoadsExactly }
-{
-    0
-}
+{}
 
 // A well laid-out model is refused by the first number that shows, at the least place at which it shows.
-pub fn refuses_first() -> u8
+pub fn refuses_first()
     ensures { RefusesFirst }
-{
-    0
-}
+{}
 
 // The worked cases come out as the table says.
-pub fn worked_cases() -> u8
+pub fn worked_cases()
     ensures { CasesHold table }
-{
-    0
-}
+{}

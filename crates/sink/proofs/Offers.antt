@@ -1,13 +1,9 @@
 -- What a sink means after a line that it took.
-use Rattle.std.proofs.Common.{◌≡◌, ℕ, ◌+◌, ◌≤◌, Bool, true, cond, List, [], ◌∷◌, ◌++◌, length, take, drop, sym, refl, ap, ◌∙◌, subst, append_assoc, arith, length-append, length-drop, length-take, take-add}
+use Rattle.std.proofs.Common.{◌≡◌, ℕ, ◌+◌, ◌≤◌, List, [], ◌∷◌, ◌++◌, length, take, drop, sym, ap, ◌∙◌, subst, append_assoc, arith, length-append, length-drop, length-take, take-add}
 use Rattle.std.proofs.lemmas.List.{drop-drop, take-append-drop}
-use Rattle.sink.specs.Sinks.{Plain, Same, Taking, Refusing}
+use Rattle.sink.specs.Sinks.{Plain, Same, Taking}
 use Rattle.sink.specs.Texts.{written, lines_in, Whole, Fitting, Matching}
 use Rattle.sink.proofs.Lines.{lines_more, whole-more, count-more, length-line}
-
--- a sink that is left as it was
-pub refused-line : (before : List (List ℕ)) (runs : List (List ℕ) → Type 0) (line : List ℕ) → (runs (line ∷ []) → ⊥) → Refusing before runs line before runs
-refused-line before runs line n = record { would_not = n; same = refl; rest = record { to = λ rs p. p; back = λ rs p. p } }
 
 -- runs that fit
 
@@ -28,11 +24,6 @@ fit_whole text text' line w p t = subst Whole (sym t) (whole-more text line w p)
 pub fit_counted : (text text' line : List ℕ) → Whole text → Plain line → text' ≡ text ++ (line ++ (10 ∷ [])) → (n : ℕ) → n ≡ length (lines_in text) → n + 1 ≡ length (lines_in text')
 fit_counted text text' line w p t n e =
     ap (λ k. k + 1) e ∙ sym (count-more text line w p) ∙ ap (λ s. length (lines_in s)) (sym t)
-
--- the line and the newline, appended one after the other
-pub appended : (text part all line : List ℕ) (r : Bool) → r ≡ true → part ≡ cond r (text ++ line) text → all ≡ part ++ (10 ∷ []) → all ≡ text ++ (line ++ (10 ∷ []))
-appended text part all line r e p a =
-    a ∙ ap (λ t. t ++ (10 ∷ [])) (p ∙ ap (λ b. cond b (text ++ line) text) e) ∙ append_assoc text line (10 ∷ [])
 
 -- runs that match
 

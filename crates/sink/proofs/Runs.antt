@@ -1,6 +1,8 @@
 -- Runs that a sink takes, one after another. A sink goes from s to t by a run of lines.
-use Rattle.std.proofs.Common.{◌≡◌, ℕ, ◌+◌, ◌<◌, ◌≤◌, List, [], ◌∷◌, ◌++◌, length, get_or, take, Err, sym, ap, ◌∙◌, subst, append_assoc, add-one}
-use Rattle.std.proofs.lemmas.List.{append-nil, take_more, take_all}
+use Rattle.std.proofs.Common.{◌≡◌, ℕ, ◌+◌, ◌<◌, ◌≤◌, List, [], ◌∷◌, ◌++◌, length, get_or, take, Err, sym, ap, ◌∙◌, subst, append_assoc, add-one, arith, map}
+use Rattle.std.proofs.lemmas.List.{append-nil, take_more, take_all, get_or-map}
+use lib.ListN.{length-map}
+use denote.Ref.{Bor}
 use Rattle.sink.specs.Sinks.{SinkLaws, Refusing, Took, OfferedAll}
 
 module _ {S : Type 0} (taken : S → List (List ℕ)) (takes : S → List (List ℕ) → Type 0) where
@@ -37,16 +39,19 @@ module _ {S : Type 0} (taken : S → List (List ℕ)) (takes : S → List (List 
   never_longer laws s ls more n p = n (laws.front s ls more p)
 
   -- lines offered in turn: i of them are taken, and then the next one is, or is refused
-  module _ (s : S) (ls : List (List ℕ)) (i : ℕ) (line : List ℕ) (h : i < length ls) (is : get_or ls i [] ≡ line) where
-    next-run : take (i + 1) ls ≡ take i ls ++ (line ∷ [])
-    next-run = take_more ls i [] h ∙ ap (λ l. take i ls ++ (l ∷ [])) is
+  module _ (s : S) (lines : List (Bor (List ℕ))) (i : ℕ) (h : i < length lines) (d : Bor (List ℕ)) where
+    next-run : take (i + 1) (map (λ x. x.now) lines) ≡ take i (map (λ x. x.now) lines) ++ ((get_or lines i d).now ∷ [])
+    next-run =
+        take_more (map (λ x. x.now) lines) i [] (omega (arith, length-map lines (λ x. x.now))) ∙ ap (λ l. take i (map (λ x. x.now) lines) ++ (l ∷ [])) (get_or-map (λ x. x.now) lines i d [] h)
 
-    pub took_next : (t u : S) → Took taken takes s (take i ls) t → Took taken takes t (line ∷ []) u → Took taken takes s (take (i + 1) ls) u
-    took_next t u a b = subst (λ r. Took taken takes s r u) (sym next-run) (took_more s t u (take i ls) (line ∷ []) a b)
+    pub took_next : (t u : S) → Took taken takes s (take i (map (λ x. x.now) lines)) t → Took taken takes t ((get_or lines i d).now ∷ []) u → Took taken takes s (take (i + 1) (map (λ x. x.now) lines)) u
+    took_next t u a b =
+        subst (λ r. Took taken takes s r u) (sym next-run) (took_more s t u (take i (map (λ x. x.now) lines)) ((get_or lines i d).now ∷ []) a b)
 
-    pub stopped_next : (t u : S) → Took taken takes s (take i ls) t → Refusing (taken t) (takes t) line (taken u) (takes u) → OfferedAll taken takes s ls (Err i) u
+    pub stopped_next : (t u : S) → Took taken takes s (take i (map (λ x. x.now) lines)) t → Refusing (taken t) (takes t) (get_or lines i d).now (taken u) (takes u) → OfferedAll taken takes s (map (λ x. x.now) lines) (Err (record { taken = i })) u
     stopped_next t u a b =
-        (took_before s t u (take i ls) line a b, λ p. refused-after s t u (take i ls) line a b (subst (takes s) (ap (λ n. take n ls) (sym (add-one i)) ∙ next-run) p))
+        (took_before s t u (take i (map (λ x. x.now) lines)) (get_or lines i d).now a b, λ p. refused-after s t u (take i (map (λ x. x.now) lines)) (get_or lines i d).now a b (subst (takes s) (ap (λ n. take n (map (λ x. x.now) lines)) (sym (add-one i)) ∙ next-run) p))
 
-  pub took_all : (s t : S) (ls : List (List ℕ)) (i : ℕ) → length ls ≤ i → Took taken takes s (take i ls) t → Took taken takes s ls t
-  took_all s t ls i h a = subst (λ r. Took taken takes s r t) (take_all i ls h) a
+  pub took_all : (s t : S) (lines : List (Bor (List ℕ))) (i : ℕ) → length lines ≤ i → Took taken takes s (take i (map (λ x. x.now) lines)) t → Took taken takes s (map (λ x. x.now) lines) t
+  took_all s t lines i h a =
+      subst (λ r. Took taken takes s r t) (take_all i (map (λ x. x.now) lines) (omega (arith, length-map lines (λ x. x.now)))) a

@@ -2,6 +2,7 @@
 use Rattle.std.specs.Prelude.{◌≡◌, ℕ, suc, List, [], ◌∷◌, ◌++◌, take, Ok, Err, Result, ◌≢◌}
 use Rattle.std.specs.List.{AllByRecursion}
 use Rattle.sink.specs.declared.meaning.Refusal.{Refusal}
+use Rattle.sink.specs.declared.run.RunRefusal.{RunRefusal}
 
 -- no byte of the line is a newline
 abbrev pub Plain : List ℕ → Type 0
@@ -44,7 +45,7 @@ Took taken takes s ls s' = Taking (taken s) (takes s) ls (taken s') (takes s')
 abbrev pub Offered : {S : Type 0} → (S → List (List ℕ)) → (S → List (List ℕ) → Type 0) → S → List ℕ → Result (Unit {0}) Refusal → S → Type 0
 Offered taken takes s line r s' = Answered (taken s) (takes s) line r (taken s') (takes s')
 
--- the lines were offered in turn, up to the first that was refused, which has this number
-abbrev pub OfferedAll : {S : Type 0} → (S → List (List ℕ)) → (S → List (List ℕ) → Type 0) → S → List (List ℕ) → Result (Unit {0}) ℕ → S → Type 0
+-- the lines were offered in turn, up to the first that was refused, which says how many those before it are
+abbrev pub OfferedAll : {S : Type 0} → (S → List (List ℕ)) → (S → List (List ℕ) → Type 0) → S → List (List ℕ) → Result (Unit {0}) RunRefusal → S → Type 0
 OfferedAll taken takes s ls (Ok x) s' = Took taken takes s ls s'
-OfferedAll taken takes s ls (Err n) s' = Took taken takes s (take n ls) s' × (takes s (take (suc n) ls) → ⊥)
+OfferedAll taken takes s ls (Err e) s' = Took taken takes s (take e.taken ls) s' × (takes s (take (suc e.taken) ls) → ⊥)

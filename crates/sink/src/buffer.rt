@@ -8,9 +8,9 @@ ghost use Rattle.sink.specs.Texts.{Whole, lines_in};
 pub struct BufferSink {
     // the lines taken, each with a newline
     pub(crate) text: Vec<u8>,
-    // how long the text may become
+    // how long the text may become; its capacity cannot say so, since an append may raise that
     pub(crate) size: usize,
-    // how many lines are taken
+    // how many lines are taken, so that `count` walks over no text: a walk takes a millisecond for each megabyte
     pub(crate) lines: usize,
     ghost whole: { Whole text.items },
     ghost counted: { lines ≡ length (lines_in text.items) },

@@ -15,10 +15,7 @@ use std::alloc::{AllocError, Global};
 fn fits_line(room: usize, line: &[u8]) -> bool
     ensures { Decides result (Fitting room (line.now ∷ [])) }
 {
-    if line.len() >= room {
-        return false;
-    }
-    is_plain(line)
+    line.len() < room && is_plain(line)
 }
 
 // Appends the line and a newline, for which there is room.
@@ -28,8 +25,7 @@ fn append_line(text: &mut Vec<u8>, line: &[u8])
     ensures len { vec_len text.new ≡ vec_len text.old + (length line.now + 1) }
     ensures capacity { vec_capacity text.old ≤ vec_capacity text.new }
 {
-    // the room is reserved, so this is Ok
-    let _ = text.extend_from_slice(line);
+    text.extend_from_slice(line).unwrap();
     text.push_reserved(b'\n');
 }
 

@@ -7,9 +7,10 @@ ghost use Rattle.sink.specs.Texts.{Whole, lines_in};
 #[derive(Drop)]
 pub struct ComparingSink<'a> {
     pub(crate) expected: &'a [u8],
-    // how much of the expected text has come
+    // How much of the expected text has come. In its place the rest could stand as a slice, but clauses speak of the whole
+    // text too, so a fact would have to say that one slice ends the other.
     pub(crate) at: usize,
-    // how many lines are taken
+    // how many lines are taken, so that `count` walks over no text
     pub(crate) lines: usize,
     ghost within: { at ≤ length expected.now },
     ghost whole: { Whole (take at expected.now) },

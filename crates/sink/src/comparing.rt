@@ -14,17 +14,10 @@ use crate::plain::is_plain;
 fn begins_line(text: &[u8], line: &[u8]) -> bool
     ensures { Decides result (Matching text.now (line.now ∷ [])) }
 {
-    let end = line.len();
-    if end >= text.len() {
-        return false;
+    match text.strip_prefix(line) {
+        Some([b'\n', ..]) => is_plain(line),
+        _ => false,
     }
-    if text[end] != b'\n' {
-        return false;
-    }
-    if !text.starts_with(line) {
-        return false;
-    }
-    is_plain(line)
 }
 
 impl<'a> ComparingSink<'a> {
@@ -55,12 +48,10 @@ impl<'a> Sink for ComparingSink<'a> {
         ensures answer { Offered compared_taken compared_takes self.old line.now result self.new }
         ensures same_text { expected_text self.new ≡ expected_text self.old }
     {
-        let at = self.at;
-        if !begins_line(&self.expected[at..], line) {
+        if !begins_line(&self.expected[self.at..], line) {
             return Err(Refusal);
         }
-        let step = line.len() + 1;
-        self.at += step;
+        self.at += line.len() + 1;
         self.lines += 1;
         Ok(())
     }

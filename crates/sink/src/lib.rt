@@ -17,4 +17,4 @@ pub use buffer::BufferSink;
 pub use compare::ComparingSink;
 pub use laws::texts_end;
 pub use meaning::{Refusal, Sink};
-pub use run::offer_all;
+pub use run::{RunRefusal, offer_all};

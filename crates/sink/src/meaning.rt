@@ -1,11 +1,24 @@
 //! What a sink is.
 
-ghost use Rattle.std.specs.Prelude.{◌≡◌, ℕ, List, length};
+ghost use Rattle.std.specs.Prelude.{◌≡◌, ℕ, List, Some, codes, length};
 ghost use Rattle.sink.specs.Sinks.{Offered, SinkLaws};
 
+use std::error::Error;
+use std::fmt;
+
 /// The line was not taken.
-#[derive(Clone, Copy)]
+#[derive(Clone, Copy, Debug, PartialEq, Eq, Hash)]
 pub struct Refusal;
+
+impl fmt::Display for Refusal {
+    ghost output = { λ _. Some (codes "the line is refused") };
+
+    fn fmt<W: fmt::Write>(&self, f: &mut fmt::Formatter<W>) -> fmt::Result {
+        f.write_str("the line is refused")
+    }
+}
+
+impl Error for Refusal {}
 
 /// What takes lines. It means two values: the lines taken, and the runs of further lines that it would take.
 pub trait Sink {

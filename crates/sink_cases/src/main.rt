@@ -7,86 +7,164 @@ use sink::{BufferSink, ComparingSink, Sink, offer_all};
 use std::io;
 use std::str::from_utf8;
 
+// Lines for a buffer of that size.
+struct Buffering<'a> {
+    name: &'a str,
+    size: usize,
+    lines: &'a [&'a str],
+}
+
+// Lines for a sink that compares with that text.
+struct Comparing<'a> {
+    name: &'a str,
+    expected: &'a str,
+    lines: &'a [&'a str],
+}
+
+const ONE_BY_ONE: &[Buffering<'static>] = &[
+    Buffering {
+        name: "exactly full",
+        size: 6,
+        lines: &["ab", "cd", ""],
+    },
+    Buffering {
+        name: "one byte short, then a shorter line",
+        size: 5,
+        lines: &["ab", "cd", "c", ""],
+    },
+    Buffering {
+        name: "empty lines",
+        size: 2,
+        lines: &["", "", ""],
+    },
+    Buffering {
+        name: "size 0",
+        size: 0,
+        lines: &["", "a"],
+    },
+    Buffering {
+        name: "a newline in a line",
+        size: 9,
+        lines: &["a\nb", "\n", "ab\n", "ab"],
+    },
+    Buffering {
+        name: "more than any memory",
+        size: usize::MAX,
+        lines: &[""],
+    },
+];
+
+const COMPARISONS: &[Comparing<'static>] = &[
+    Comparing {
+        name: "right lines",
+        expected: "ab\n\ncd\n",
+        lines: &["ab", "", "cd", ""],
+    },
+    Comparing {
+        name: "not all of them",
+        expected: "ab\n\ncd\n",
+        lines: &["ab", ""],
+    },
+    Comparing {
+        name: "wrong lines, then right ones",
+        expected: "ab\ncd\n",
+        lines: &["cd", "a", "abc", "", "ab", "ab", "c", "cd"],
+    },
+    Comparing {
+        name: "no last newline",
+        expected: "ab\ncd",
+        lines: &["ab", "cd", "c", ""],
+    },
+    Comparing {
+        name: "no newline at all",
+        expected: "ab",
+        lines: &["ab", ""],
+    },
+    Comparing {
+        name: "a newline in a line",
+        expected: "a\nb\n",
+        lines: &["a\nb", "a\n", "a", "b"],
+    },
+    Comparing {
+        name: "only a newline",
+        expected: "\n",
+        lines: &["\n", "", ""],
+    },
+    Comparing {
+        name: "an empty text",
+        expected: "",
+        lines: &["", "a"],
+    },
+];
+
+const RUNS: &[Buffering<'static>] = &[
+    Buffering {
+        name: "a run that fits",
+        size: 4,
+        lines: &["a", "b"],
+    },
+    Buffering {
+        name: "a run one line too long",
+        size: 4,
+        lines: &["a", "b", "c"],
+    },
+    Buffering {
+        name: "a run that goes no further behind a refused line",
+        size: 6,
+        lines: &["a", "\n", "b"],
+    },
+    Buffering {
+        name: "the empty run",
+        size: 0,
+        lines: &[],
+    },
+];
+
 fn main(rt: HostRuntime) -> io::Result<()> {
-    buffers(&rt)?;
-    comparisons(&rt)?;
-    runs(&rt)
+    for case in ONE_BY_ONE {
+        offer_to_buffer(&rt, case)?;
+    }
+    for case in COMPARISONS {
+        compare(&rt, case)?;
+    }
+    for case in RUNS {
+        offer_run(&rt, case)?;
+    }
+    Ok(())
 }
 
 // To a sink into a buffer, lines one by one.
-fn buffers(rt: &HostRuntime) -> io::Result<()> {
-    buffer(rt, "exactly full", 6, &["ab", "cd", ""])?;
-    buffer(
-        rt,
-        "one byte short, then a shorter line",
-        5,
-        &["ab", "cd", "c", ""],
-    )?;
-    buffer(rt, "empty lines", 2, &["", "", ""])?;
-    buffer(rt, "size 0", 0, &["", "a"])?;
-    buffer(rt, "a newline in a line", 9, &["a\nb", "\n", "ab\n", "ab"])?;
-    buffer(rt, "more than any memory", usize::MAX, &[""])
-}
-
-// To a sink that compares, lines one by one.
-fn comparisons(rt: &HostRuntime) -> io::Result<()> {
-    compare(rt, "right lines", "ab\n\ncd\n", &["ab", "", "cd", ""])?;
-    compare(rt, "not all of them", "ab\n\ncd\n", &["ab", ""])?;
-    compare(
-        rt,
-        "wrong lines, then right ones",
-        "ab\ncd\n",
-        &["cd", "a", "abc", "", "ab", "ab", "c", "cd"],
-    )?;
-    compare(rt, "no last newline", "ab\ncd", &["ab", "cd", "c", ""])?;
-    compare(rt, "no newline at all", "ab", &["ab", ""])?;
-    compare(
-        rt,
-        "a newline in a line",
-        "a\nb\n",
-        &["a\nb", "a\n", "a", "b"],
-    )?;
-    compare(rt, "only a newline", "\n", &["\n", "", ""])?;
-    compare(rt, "an empty text", "", &["", "a"])
-}
-
-// Runs, offered as one.
-fn runs(rt: &HostRuntime) -> io::Result<()> {
-    run(rt, "a run that fits", 4, &[b"a", b"b"])?;
-    run(rt, "a run one line too long", 4, &[b"a", b"b", b"c"])?;
-    run(
-        rt,
-        "a run that goes no further behind a refused line",
-        6,
-        &[b"a", b"\n", b"b"],
-    )?;
-    run(rt, "the empty run", 0, &[])
-}
-
-fn buffer(rt: &HostRuntime, name: &str, size: usize, lines: &[&str]) -> io::Result<()> {
-    print!(rt; "{name}: buffer of {size}:")?;
-    let Ok(mut sink) = BufferSink::new(rt.alloc(), size) else {
+fn offer_to_buffer(rt: &HostRuntime, case: &Buffering) -> io::Result<()> {
+    print!(rt; "{}: buffer of {}:", case.name, case.size)?;
+    let Ok(mut sink) = BufferSink::new(rt.alloc(), case.size) else {
         return println!(rt; " no memory");
     };
-    offer_each(rt, &mut sink, lines)?;
+    offer_each(rt, &mut sink, case.lines)?;
     show_text(rt, &sink)
 }
 
-fn compare(rt: &HostRuntime, name: &str, expected: &str, lines: &[&str]) -> io::Result<()> {
-    print!(rt; "{name}: comparing with {expected:?}:")?;
-    let mut sink = ComparingSink::new(expected.as_bytes());
-    offer_each(rt, &mut sink, lines)?;
+// To a sink that compares, lines one by one.
+fn compare(rt: &HostRuntime, case: &Comparing) -> io::Result<()> {
+    print!(rt; "{}: comparing with {:?}:", case.name, case.expected)?;
+    let mut sink = ComparingSink::new(case.expected.as_bytes());
+    offer_each(rt, &mut sink, case.lines)?;
     let matched = sink.matched();
     let complete = sink.is_complete();
     println!(rt; " matched {matched}, complete {complete}")
 }
 
-fn run(rt: &HostRuntime, name: &str, size: usize, lines: &[&[u8]]) -> io::Result<()> {
-    print!(rt; "{name}: buffer of {size}:")?;
-    let mut sink = BufferSink::new(rt.alloc(), size)?;
-    match offer_all(&mut &mut sink, lines) {
+// To a sink into a buffer, a run.
+fn offer_run(rt: &HostRuntime, case: &Buffering) -> io::Result<()> {
+    print!(rt; "{}: buffer of {}:", case.name, case.size)?;
+    let mut sink = BufferSink::new(rt.alloc(), case.size)?;
+    let run = case
+        .lines
+        .iter()
+        .map(|line| line.as_bytes())
+        .collect::<Vec<_>>(rt.alloc())?;
+    match offer_all(&mut &mut sink, run.as_slice()) {
         Ok(()) => print!(rt; " all taken,")?,
-        Err(n) => print!(rt; " refused after {n},")?,
+        Err(refusal) => print!(rt; " {refusal},")?,
     }
     let count = sink.count();
     print!(rt; " count {count},")?;

@@ -1,16 +1,14 @@
-use Rattle.sink.proofs.Telling.{begins-short, begins_other, begins-apart, begins_if_plain}
+use Rattle.std.proofs.Common.{Some, rules}
+use Rattle.std.proofs.lemmas.Bool.Decides.{Decides-eqb}
+use Rattle.std.proofs.lemmas.Slice.Eq.{strip_prefix_is}
+use Rattle.sink.proofs.Telling.{begins_if_plain, begins_other}
 use Rattle.sink.proofs.comparing.begins_line.Goals as goal
 
-pub returns-then-end-text : goal.returns-then-end-text
-returns-then-end-text c = begins-short c.args.text.now c.args.line.now c.if-end-text.true
+pub returns-in-Some-eq10 : goal.returns-in-Some-eq10
+returns-in-Some-eq10 c =
+    let rest = c.in-Some-eq10.field-0 in
+    begins_if_plain c.args.text.now c.args.line.now rest.now c.is_plain.result (strip_prefix_is Decides-eqb c.args.text.now c.args.line.now (Some rest) c.in-Some-eq10.ensures.cases) c.in-Some-eq10.len_at_least (search rules) c.is_plain.ensures
 
-pub returns-then-text-end-ne10 : goal.returns-then-text-end-ne10
-returns-then-text-end-ne10 c = begins_other c.args.text.now c.args.line.now c.if-text-end-ne10.true
-
-pub returns-then-not-starts_with : goal.returns-then-not-starts_with
-returns-then-not-starts_with c =
-    begins-apart c.args.text.now c.args.line.now c.starts_with.result c.starts_with.ensures.value c.if-not-starts_with.true
-
-pub returns : goal.returns
-returns c =
-    begins_if_plain c.args.text.now c.args.line.now c.starts_with.result c.is_plain.result c.if-end-text.false c.if-text-end-ne10.false c.starts_with.ensures.value c.if-not-starts_with.false c.is_plain.ensures
+pub returns-in_default-3 : goal.returns-in_default-3
+returns-in_default-3 c =
+    begins_other c.args.text.now c.args.line.now (rw c.in_default.is at (strip_prefix_is Decides-eqb c.args.text.now c.args.line.now c.strip_prefix.result c.strip_prefix.ensures.cases))

@@ -1,0 +1,49 @@
+-- What the library decodes of a text is what the pairs of digits say.
+use Rattle.std.proofs.Common.{◌≡◌, ℕ, ◌+◌, ◌*◌, ◌%◌, inl, inr, List, [], ◌∷◌, length, Some, None, Ok, Err, Option, Result, sym, refl, ap, ◌∙◌, arith}
+use Rattle.std.proofs.lemmas.Bool.{cases_eq}
+use Rattle.hex.specs.declared.error.FromHexError.{FromHexError}
+use Rattle.hex.specs.Hex.{decode_of, decode_pairs, digit_or_error, hex_digit_value, ◌>>=◌}
+use Rattle.hex.proofs.HexLemmas.{decode_of-even, decode_of-odd}
+use Rattle.commands.specs.Hex.{digit_of, byte_before, hex_bytes}
+
+-- what was read, if it could be
+abbrev pub read_or_none : Result (List ℕ) FromHexError → Option (List ℕ)
+read_or_none (Ok bytes) = Some bytes
+read_or_none (Err e) = None
+
+digit_same : (c : ℕ) → hex_digit_value c ≡ digit_of c
+digit_same c = grind arith
+
+-- two digits and what follows them
+pair_same : (i j h l : ℕ) (high low : Option ℕ) (rest : Result (List ℕ) FromHexError) → read_or_none ((digit_or_error h i high >>= (λ x. digit_or_error l j low >>= (λ y. Ok (x * 16 + y)))) >>= (λ byte. rest >>= (λ bytes. Ok (byte ∷ bytes)))) ≡ byte_before high low (read_or_none rest)
+pair_same i j h l None low rest = refl
+pair_same i j h l (Some x) None rest = refl
+pair_same i j h l (Some x) (Some y) (Ok bytes) = refl
+pair_same i j h l (Some x) (Some y) (Err e) = refl
+
+pairs_same : (i : ℕ) (text : List ℕ) → read_or_none (decode_pairs i text) ≡ hex_bytes text
+unfolding decode_pairs
+pairs_same i [] = refl
+pairs_same i (c ∷ []) = refl
+pairs_same i (h ∷ l ∷ rest) =
+    rw (← digit_same h, ← digit_same l, ← pairs_same (i + 2) rest)
+    (pair_same i (i + 1) h l (hex_digit_value h) (hex_digit_value l) (decode_pairs (i + 2) rest))
+
+none_before : (high low : Option ℕ) → byte_before high low None ≡ None
+none_before None low = refl
+none_before (Some h) None = refl
+none_before (Some h) (Some l) = refl
+
+-- an odd text has no bytes
+odd_none : (text : List ℕ) → length text % 2 ≡ 1 → hex_bytes text ≡ None
+odd_none [] odd = absurd (omega arith)
+odd_none (c ∷ []) odd = refl
+odd_none (h ∷ l ∷ rest) odd =
+    ap (byte_before (digit_of h) (digit_of l)) (odd_none rest (omega arith)) ∙ none_before (digit_of h) (digit_of l)
+
+pub decoded_same : (text : List ℕ) → read_or_none (decode_of text) ≡ hex_bytes text
+decoded_same text =
+    elim (cases_eq (length text % 2) 1) [
+      | inl odd ↦ ap read_or_none (decode_of-odd text odd) ∙ sym (odd_none text odd)
+      | inr even ↦ ap read_or_none (decode_of-even text (omega arith)) ∙ pairs_same 0 text
+    ]

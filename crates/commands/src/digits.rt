@@ -1,0 +1,21 @@
+// Bytes that are written as pairs of hexadecimal digits.
+ghost use Rattle.std.specs.Prelude.{◌≡◌, IfOk, vec_items};
+ghost use Rattle.std.specs.Option.{option_map};
+ghost use Rattle.commands.specs.Hex.{hex_bytes};
+
+use hex::FromHexError;
+use std::alloc::{AllocError, Global};
+
+// The bytes that the text writes; none where it is no row of pairs of digits.
+pub(crate) fn unhex(heap: Global, text: &[u8]) -> Result<Option<Vec<u8>>, AllocError>
+    ensures { IfOk result (λ o. option_map vec_items o ≡ hex_bytes text.now) }
+{
+    match hex::decode(heap, text) {
+        Ok(bytes) => Ok(Some(bytes)),
+        // of the library's errors one is want of memory, and the others say that these are no pairs of digits
+        Err(e) => match e {
+            FromHexError::OutOfMemory => Err(AllocError),
+            _ => Ok(None),
+        },
+    }
+}
