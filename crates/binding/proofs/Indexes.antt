@@ -1,10 +1,11 @@
 -- What the indexes tell of the bindings.
-use Rattle.std.proofs.Common.{◌≡◌, ℕ, zero, suc, ◌+◌, ◌-◌, ◌^◌, ◌<◌, ◌≤◌, Bool, true, false, cond, not, ◌||◌, eqb, List, [], length, is_some, Some, None, vec_items, Option, Vec, sym, refl, ap, ◌∙◌, subst, add-one, arith, Bor}
+use Rattle.std.proofs.Common.{◌≡◌, ℕ, zero, suc, ◌+◌, ◌-◌, ◌^◌, ◌<◌, ◌≤◌, Bool, true, false, cond, not, ◌||◌, eqb, List, length, is_some, Some, None, vec_items, Option, Vec, sym, refl, ap, ◌∙◌, subst, add-one, arith, Bor}
 use Rattle.std.specs.declared.alloc.Global.{Global}
+use Rattle.std.specs.Option.{option_map}
 use Rattle.std.specs.BTreeSet as bag
-use Rattle.std.proofs.lemmas.Bool.{false≢true, eqb-true, eqb-false}
+use Rattle.std.proofs.lemmas.Bool.{eqb-true, eqb-false}
 use Rattle.model.specs.Tree.{Text}
-use Rattle.naming.specs.Next.{next_name, following, proposal, Appended}
+use Rattle.naming.specs.Next.{next_name, following, proposal}
 use Rattle.references.specs.Kept.{text_cmp}
 use Rattle.binding.specs.declared.binder.Binder.{Binder}
 use Rattle.binding.specs.Binding.{Binding, find, chosen}
@@ -29,39 +30,30 @@ module _ (s : Binder) (x : Indexed s) (q : Bor (List ℕ)) (v : Vec ℕ Global) 
 
 module _ (b : List Binding) where
   -- a turn of the loop, by the name that it comes to
-  next-there : (o : Option Text) (there : Bool) (w : Text) → Appended o there [] w → there ≡ true → o ≡ Some w
-  next-there None there w p t = absurd (false≢true (sym p.0 ∙ t))
-  next-there (Some v) there w p t = ap Some (sym p.1)
-
-  next-none : (o : Option Text) (there : Bool) (w : Text) → Appended o there [] w → there ≡ false → o ≡ None
-  next-none None there w p t = refl
-  next-none (Some v) there w p t = absurd (false≢true (sym t ∙ p.0))
-
-  no_next : (n i : ℕ) (o : Option Text) (there : Bool) (w : Text) (all : Option Text) → i < n → Appended o there [] w → there ≡ false
-      → free_from (n - i) b o ≡ all → None ≡ all
-  no_next n i o there w all l p t inv = go (n - i) (omega arith) (next-none o there w p t) inv
+  no_next : (n i : ℕ) (o all : Option Text) → i < n → o ≡ None → free_from (n - i) b o ≡ all → None ≡ all
+  no_next n i o all l e inv = go (n - i) (omega arith) inv
     where
-      go : (m : ℕ) → 0 < m → o ≡ None → free_from m b o ≡ all → None ≡ all
-      go zero z e h = absurd (omega arith)
-      go (suc m) z e h = ap (λ y. chosen y (λ w. not (is_some (find b w))) (free_from m b (following y))) (sym e) ∙ h
+      go : (m : ℕ) → 0 < m → free_from m b o ≡ all → None ≡ all
+      go zero z h = absurd (omega arith)
+      go (suc m) z h = ap (λ y. chosen y (λ w. not (is_some (find b w))) (free_from m b (following y))) (sym e) ∙ h
 
-  next-free : (n i : ℕ) (o : Option Text) (there : Bool) (w : Text) (all : Option Text) → i < n → Appended o there [] w → there ≡ true
-      → false ≡ is_some (find b w) → free_from (n - i) b o ≡ all → Some w ≡ all
-  next-free n i o there w all l p t f inv = go (n - i) (omega arith) (next-there o there w p t) inv
+  next-free : (n i : ℕ) (o : Option Text) (w : Text) (all : Option Text) → i < n → o ≡ Some w → false ≡ is_some (find b w)
+      → free_from (n - i) b o ≡ all → Some w ≡ all
+  next-free n i o w all l e f inv = go (n - i) (omega arith) inv
     where
-      go : (m : ℕ) → 0 < m → o ≡ Some w → free_from m b o ≡ all → Some w ≡ all
-      go zero z e h = absurd (omega arith)
-      go (suc m) z e h =
+      go : (m : ℕ) → 0 < m → free_from m b o ≡ all → Some w ≡ all
+      go zero z h = absurd (omega arith)
+      go (suc m) z h =
           ap (λ c. cond (not c) (Some w) (free_from m b (next_name w))) f
           ∙ ap (λ y. chosen y (λ w. not (is_some (find b w))) (free_from m b (following y))) (sym e) ∙ h
 
-  next-bound : (n i : ℕ) (o : Option Text) (there : Bool) (w : Text) (all : Option Text) → i < n → Appended o there [] w → there ≡ true
-      → true ≡ is_some (find b w) → free_from (n - i) b o ≡ all → free_from (n - (i + 1)) b (next_name w) ≡ all
-  next-bound n i o there w all l p t f inv = go (n - i) (n - (i + 1)) (omega arith) (next-there o there w p t) inv
+  next-bound : (n i : ℕ) (o : Option Text) (w : Text) (all : Option Text) → i < n → o ≡ Some w → true ≡ is_some (find b w)
+      → free_from (n - i) b o ≡ all → free_from (n - (i + 1)) b (next_name w) ≡ all
+  next-bound n i o w all l e f inv = go (n - i) (n - (i + 1)) (omega arith) inv
     where
-      go : (m k : ℕ) → m ≡ suc k → o ≡ Some w → free_from m b o ≡ all → free_from k b (next_name w) ≡ all
-      go zero k z e h = absurd (omega arith)
-      go (suc m) k z e h =
+      go : (m k : ℕ) → m ≡ suc k → free_from m b o ≡ all → free_from k b (next_name w) ≡ all
+      go zero k z h = absurd (omega arith)
+      go (suc m) k z h =
           let same : m ≡ k = omega arith in
           ap (λ j. free_from j b (next_name w)) (sym same)
           ∙ ap (λ c. cond (not c) (Some w) (free_from m b (next_name w))) f
@@ -70,9 +62,9 @@ module _ (b : List Binding) where
   none_left : (n i : ℕ) (o all : Option Text) → n ≤ i → free_from (n - i) b o ≡ all → None ≡ all
   none_left n i o all l inv = let z : n - i ≡ 0 = omega arith in ap (λ k. free_from k b o) (sym z) ∙ inv
 
--- what a name was appended to had nothing yet
-pub from_append : (n m : Text) (there : Bool) (before w : Text) → n ≡ m → before ≡ [] → Appended (next_name n) there before w → Appended (next_name m) there [] w
-from_append n m there before w e none p = subst (λ y. Appended (next_name y) there [] w) e (subst (λ y. Appended (next_name n) there y w) none p)
+-- what the code holds of a next name
+pub next-of : (n m : Text) (o r : Option (Vec ℕ Global)) → n ≡ m → option_map (λ v. vec_items v) o ≡ next_name n → o ≡ r → next_name m ≡ option_map (λ v. vec_items v) r
+next-of n m o r e p is = ap next_name (sym e) ∙ sym p ∙ ap (option_map (λ v. vec_items v)) is
 
 -- ---- the loop, by the number of the proposal that it has come to
 
@@ -111,30 +103,30 @@ module _ (b : List Binding) (root : Text) (count : ℕ) where
     pub seeks_end : count ≤ n → free_from count b (next_name root) ≡ None
     seeks_end l = sym (none_left b count n (next_name name) (free_from count b (next_name root)) l s.rest)
 
-    module _ (there : Bool) (w : Text) (l : n < count) (p : Appended (next_name name) there [] w) where
-      pub seeks_none : there ≡ false → free_from count b (next_name root) ≡ None
-      seeks_none t = sym (no_next b count n (next_name name) there w (free_from count b (next_name root)) l p t s.rest)
+    pub seeks_none : n < count → next_name name ≡ None → free_from count b (next_name root) ≡ None
+    seeks_none l e = sym (no_next b count n (next_name name) (free_from count b (next_name root)) l e s.rest)
 
-      next-is : there ≡ true → proposal root (n + 1) ≡ Some w
-      next-is t = ap (proposal root) (add-one n) ∙ ap following s.reached.is ∙ next-there b (next_name name) there w p t
+    module _ (w : Text) (l : n < count) (p : next_name name ≡ Some w) where
+      next-is : proposal root (n + 1) ≡ Some w
+      next-is = ap (proposal root) (add-one n) ∙ ap following s.reached.is ∙ p
 
-      pub seeks_free : there ≡ true → false ≡ is_some (find b w) → (free_from count b (next_name root) ≡ Some w) × Comes b root w (n + 1)
-      seeks_free t f = (
-        sym (next-free b count n (next_name name) there w (free_from count b (next_name root)) l p t f s.rest),
-        record { is = next-is t; below = λ i h. s.reached.upto i (omega arith) },
+      pub seeks_free : false ≡ is_some (find b w) → (free_from count b (next_name root) ≡ Some w) × Comes b root w (n + 1)
+      seeks_free f = (
+        sym (next-free b count n (next_name name) w (free_from count b (next_name root)) l p f s.rest),
+        record { is = next-is; below = λ i h. s.reached.upto i (omega arith) },
       )
 
-      pub seeks_bound : there ≡ true → true ≡ is_some (find b w) → Seeks b root count (n + 1) w
-      seeks_bound t f = record {
-        reached = record { is = next-is t; upto = upto };
-        rest = next-bound b count n (next_name name) there w (free_from count b (next_name root)) l p t f s.rest;
+      pub seeks_bound : true ≡ is_some (find b w) → Seeks b root count (n + 1) w
+      seeks_bound f = record {
+        reached = record { is = next-is; upto = upto };
+        rest = next-bound b count n (next_name name) w (free_from count b (next_name root)) l p f s.rest;
       }
         where
           upto : (i : ℕ) → i ≤ n + 1 → Bounded b (proposal root i)
           upto i h = go (eqb i (n + 1)) refl
             where
               go : (c : Bool) → eqb i (n + 1) ≡ c → Bounded b (proposal root i)
-              go true e = subst (λ j. Bounded b (proposal root j)) (sym (eqb-true i (n + 1) e)) (subst (Bounded b) (sym (next-is t)) (sym f))
+              go true e = subst (λ j. Bounded b (proposal root j)) (sym (eqb-true i (n + 1) e)) (subst (Bounded b) (sym next-is) (sym f))
               go false e = let d = eqb-false i (n + 1) e in s.reached.upto i (omega arith)
 
 -- the root itself, which is bound

@@ -5,7 +5,7 @@ ghost use Rattle.binding.specs.Binding.{find, name_of};
 ghost use Rattle.binding.specs.Sound.{Indexed, Sound, Enters, Binds, Shows, OnlyDeclared, DeclaresOne, Reached, Comes, FreeAlias, pool_of, bindings_in};
 
 use crate::name::{Entry, Last, Name, Part, part_of};
-use naming::append_next;
+use naming::next_name;
 use references::Reference;
 use std::alloc::{AllocError, Global};
 use std::collections::{BTreeMap, BTreeSet};
@@ -81,14 +81,11 @@ impl<'a> Binder<'a> {
         ensures { IfOk result (λ o. FreeAlias (bindings_in self.now) root.now (length self.now.entries.items) o) }
     {
         let count = self.entries.len();
-        let (first, from) = self.start(heap, root)?;
-        let mut name = first;
+        let (mut name, from) = self.start(heap, root)?;
         for n in from..count {
-            let mut next = Vec::new(heap);
-            let there = append_next(heap, &mut next, name.as_slice())?;
-            if !there {
+            let Some(next) = next_name(heap, name.as_slice())? else {
                 return Ok(None);
-            }
+            };
             if !self.is_bound(next.as_slice()) {
                 return Ok(Some((next, n + 1)));
             }

@@ -1,16 +1,16 @@
 -- The number of a next name, and its spelling; so of each proposal.
-use Rattle.std.proofs.Common.{◌≡◌, ℕ, zero, suc, ◌+◌, ◌^◌, ◌<◌, ◌≤◌, Bool, true, false, cond, eqb, List, [], ◌∷◌, ◌++◌, length, take, drop, Some, None, decimal, Option, refl, ap, ◌∙◌, arith}
+use Rattle.std.proofs.Common.{◌≡◌, ℕ, zero, suc, ◌+◌, ◌^◌, ◌<◌, ◌≤◌, Bool, true, false, cond, eqb, List, [], ◌∷◌, ◌++◌, length, take, drop, Some, None, decimal, Option, sym, refl, ap, ◌∙◌, arith}
 use Rattle.std.specs.Str.Parse.{AllDigits, digits_value}
 use Rattle.std.specs.Char.{is_ascii_digit}
 use Rattle.std.specs.Int.{IsInRange}
 use Rattle.std.proofs.lemmas.Fmt.{decimal_nonempty, digits_decimal, digits_value-decimal}
-use Rattle.std.proofs.lemmas.List.{drop_at}
+use Rattle.std.proofs.lemmas.List.{drop_at, length-take-le}
 use Rattle.std.proofs.lemmas.Str.Parse.{digit_from_value, numerals_by_value, tells_digits}
 use Rattle.std.proofs.lemmas.Bool.{and_from, and_parts, eqb-false, false≢true}
 use Rattle.std.proofs.lemmas.Bool.Decides.{nat_tests}
 use Rattle.text.specs.Names.{every, first_byte, later_byte, spelled}
 use Rattle.naming.specs.Next.{front, largest, counted, number, next_name, following, proposal}
-use Rattle.naming.proofs.Fronts.{front_ends, front-some, front_append}
+use Rattle.naming.proofs.Fronts.{front_le, front-some, front_append}
 use Rattle.naming.proofs.Values.{counted-within, counted_le}
 
 -- what a next name is made of
@@ -40,7 +40,7 @@ pub next-number : (name w : List ℕ) → next_name name ≡ Some w → number w
 next-number name w e = next-parts name w e (λ l is.
     let fits : number name + 1 < 2 ^ 64 = omega arith in
     ap number is ∙ number_append (take (front name) name) (number name + 1)
-    (front_append (take (front name) name) (decimal (number name + 1)) (front_ends name) (decimal-digits (number name + 1) fits)) fits)
+    (front_append name (decimal (number name + 1)) (decimal-digits (number name + 1) fits) ∙ sym (length-take-le (front name) name (front_le name))) fits)
 
 pub proposal-number : (root : List ℕ) (n : ℕ) (w : List ℕ) → proposal root n ≡ Some w → number w ≡ number root + n
 proposal-number root zero w e = let s : w ≡ root = cc in ap number s ∙ omega arith

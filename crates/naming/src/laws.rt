@@ -3,22 +3,16 @@ ghost use Rattle.naming.specs.Cases.{CasesHold};
 ghost use Rattle.naming.specs.Laws.{ProposalsDiffer, ProposalsShaped};
 
 // No two proposals for a root are the same name.
-pub fn proposals_differ() -> u8
+pub fn proposals_differ()
     ensures { ProposalsDiffer }
-{
-    0
-}
+{}
 
 // Where the root is spelled as an identifier, each proposal for it is.
-pub fn proposals_shaped() -> u8
+pub fn proposals_shaped()
     ensures { ProposalsShaped }
-{
-    0
-}
+{}
 
 // The worked cases come out as the table says.
-pub fn cases_hold() -> u8
+pub fn cases_hold()
     ensures { CasesHold }
-{
-    0
-}
+{}

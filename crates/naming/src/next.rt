@@ -1,7 +1,8 @@
 // A name's front and number, and the name that follows it.
 ghost use Rattle.std.specs.Prelude.{◌≡◌, IfOk};
+ghost use Rattle.std.specs.Option.{option_map};
 ghost use Rattle.std.specs.Str.Parse.{AllDigits};
-ghost use Rattle.naming.specs.Next.{Appended, counted, front, next_name, number};
+ghost use Rattle.naming.specs.Next.{counted, front, next_name, number};
 
 use std::alloc::{AllocError, Global};
 
@@ -9,32 +10,18 @@ use std::alloc::{AllocError, Global};
 fn front_of(name: &[u8]) -> usize
     ensures { result ≡ front name.now }
 {
-    let mut at = name.len();
-    while at > 0 && name[at - 1].is_ascii_digit() {
-        at -= 1;
-    }
-    at
+    name.len() - name.iter().rev().take_while(|b| b.is_ascii_digit()).count()
 }
 
-// What digits count as.
+// What digits count as: none, and too many for the number, as 1.
 fn read_number(digits: &[u8]) -> u64
     requires { AllDigits 10 digits.now }
     ensures { result ≡ counted digits.now }
 {
-    if digits.is_empty() {
-        return 1;
+    match std::str::from_utf8(digits) {
+        Ok(text) => text.parse().unwrap_or(1),
+        Err(_) => 1,
     }
-    let mut sum: u64 = 0;
-    for d in digits {
-        let Some(tens) = sum.checked_mul(10) else {
-            return 1;
-        };
-        let Some(next) = tens.checked_add(u64::from(*d - b'0')) else {
-            return 1;
-        };
-        sum = next;
-    }
-    sum
 }
 
 // How many bytes stand before the digits that end the name, and what those digits count as.
@@ -46,16 +33,17 @@ pub fn split_number(name: &[u8]) -> (usize, u64)
     (at, read_number(&name[at..]))
 }
 
-// Appends the next name to `out`, or answers false and leaves `out` as it is where there is none.
-pub fn append_next(heap: Global, out: &mut Vec<u8>, name: &[u8]) -> Result<bool, AllocError>
-    ensures { IfOk result (λ b. Appended (next_name name.now) b out.old.items out.new.items) }
+// The name that follows the name, where there is one.
+pub fn next_name(heap: Global, name: &[u8]) -> Result<Option<Vec<u8>>, AllocError>
+    ensures { IfOk result (λ next. option_map (λ w. w.items) next ≡ next_name name.now) }
 {
     let (at, last) = split_number(name);
-    let Some(next) = last.checked_add(1) else {
-        return Ok(false);
+    let Some(number) = last.checked_add(1) else {
+        return Ok(None);
     };
-    let digits = format!(in heap; "{next}")?;
-    out.extend_from_slice(&name[..at])?;
-    out.extend_from_slice(digits.as_bytes())?;
-    Ok(true)
+    let digits = format!(in heap; "{number}")?;
+    let mut next = Vec::new(heap);
+    next.extend_from_slice(&name[..at])?;
+    next.extend_from_slice(digits.as_bytes())?;
+    Ok(Some(next))
 }

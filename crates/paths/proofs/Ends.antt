@@ -115,8 +115,8 @@ text_from_end base target =
 
 -- what the calls append
 
-pub writes_target : (base target was after : List ℕ) → None ≡ shared base target → after ≡ was ++ target → after ≡ was ++ relative_text base target
-writes_target base target was after e p = p ∙ ap (λ x. was ++ x) (ap (text_at base target) e ∙ text_from_end base target)
+pub is_target : (base target : List ℕ) → None ≡ shared base target → target ≡ relative_text base target
+is_target base target e = ap (text_at base target) e ∙ text_from_end base target
 
 pub writes_dots : (base target was one dotted : List ℕ) (m : ℕ) → Some m ≡ shared base target → length target ≤ m → one ≡ was ++ 46 ∷ [] →
     dotted ≡ one ++ dots_in (take (length base - m) (drop m base)) → dotted ≡ was ++ relative_text base target

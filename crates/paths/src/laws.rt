@@ -3,29 +3,21 @@
 ghost use Rattle.paths.specs.Laws.{PathsRead, PathsResolve, TextsResolve, WorkedCases};
 
 /// From the base, Python finds the target by its path.
-pub fn paths_resolve() -> u8
+pub fn paths_resolve()
     ensures { PathsResolve }
-{
-    0
-}
+{}
 
 /// A path is read back from its text.
-pub fn paths_read() -> u8
+pub fn paths_read()
     ensures { PathsRead }
-{
-    0
-}
+{}
 
 /// So Python finds the target by the text of its path.
-pub fn texts_resolve() -> u8
+pub fn texts_resolve()
     ensures { TextsResolve }
-{
-    0
-}
+{}
 
 /// Paths that are written out.
-pub fn worked_cases() -> u8
+pub fn worked_cases()
     ensures { WorkedCases }
-{
-    0
-}
+{}

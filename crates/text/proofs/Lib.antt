@@ -3,3 +3,4 @@ pub mod Each
 pub mod NamesDecided
 pub mod NumbersDecided
 pub mod Utf8Decided
+pub mod Utf8Encoded

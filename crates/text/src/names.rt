@@ -4,8 +4,6 @@ ghost use Rattle.std.specs.Prelude.{◌≡◌, [], map, if◌then◌else◌, Dec
 ghost use Rattle.std.specs.Str.{bytes_eq};
 ghost use Rattle.text.specs.Names.{Dotted, Identifier, among, dotted, first_byte, identifier, keyword, later_byte, parts, spelled};
 
-use super::numbers::dot_at;
-
 const LONGEST_IDENTIFIER: usize = 64;
 
 const LONGEST_DOTTED_NAME: usize = 255;
@@ -64,36 +62,17 @@ fn is_name_byte(b: u8, first: bool) -> bool
 fn is_spelled(s: &[u8]) -> bool
     ensures { result ≡ spelled s.now }
 {
-    for (i, b) in s.iter().enumerate() {
-        if !is_name_byte(*b, i == 0) {
-            return false;
-        }
+    match s {
+        [] => false,
+        [first, later @ ..] => is_name_byte(*first, true)
+            && later.iter().all(|b| is_name_byte(*b, false)),
     }
-    !s.is_empty()
-}
-
-/// `==`, with its answer as a Bool that the specs compute.
-fn is_same(a: &[u8], b: &[u8]) -> bool
-    ensures { result ≡ bytes_eq a.now b.now }
-{
-    a == b
-}
-
-fn is_among(words: &[&[u8]], s: &[u8]) -> bool
-    ensures { result ≡ among (map (λ x. x.now) words.now) s.now }
-{
-    for word in words {
-        if is_same(word, s) {
-            return true;
-        }
-    }
-    false
 }
 
 fn is_keyword(s: &[u8]) -> bool
     ensures { result ≡ keyword s.now }
 {
-    is_among(&KEYWORDS, s)
+    KEYWORDS.contains(&s)
 }
 
 /// A Python identifier of ASCII letters, digits and `_`: 1 to 64 bytes that start with no digit and are no keyword.
@@ -101,27 +80,7 @@ pub fn is_identifier(s: &[u8]) -> bool
     ensures value { result ≡ identifier s.now }
     ensures decides { Decides result (Identifier s.now) }
 {
-    if s.len() > LONGEST_IDENTIFIER {
-        return false;
-    }
-    is_spelled(s) && !is_keyword(s)
-}
-
-/// Identifiers with a dot between each and the next, whatever the length of the whole.
-fn joins_identifiers(s: &[u8]) -> bool
-    ensures { result ≡ parts [] s.now }
-{
-    let mut rest = s;
-    loop {
-        let dot = dot_at(rest);
-        if !is_identifier(&rest[0..dot]) {
-            return false;
-        }
-        if dot == rest.len() {
-            return true;
-        }
-        rest = &rest[dot + 1..];
-    }
+    s.len() <= LONGEST_IDENTIFIER && is_spelled(s) && !is_keyword(s)
 }
 
 /// A dotted name: identifiers joined by single dots, at most 255 bytes in all.
@@ -129,8 +88,5 @@ pub fn is_dotted_name(s: &[u8]) -> bool
     ensures value { result ≡ dotted s.now }
     ensures decides { Decides result (Dotted s.now) }
 {
-    if s.len() > LONGEST_DOTTED_NAME {
-        return false;
-    }
-    joins_identifiers(s)
+    s.len() <= LONGEST_DOTTED_NAME && s.split(|b| *b == b'.').all(is_identifier)
 }

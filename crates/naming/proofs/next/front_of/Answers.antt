@@ -1,17 +1,16 @@
-use Rattle.std.proofs.Common.{arith}
-use Rattle.naming.proofs.Fronts.{front-start, front-step, front_stop, front-none}
+use Rattle.std.proofs.Common.{◌-◌, length, reverse, ap, ◌∙◌, rules, tests}
+use Rattle.std.specs.Char.{is_ascii_digit}
+use Rattle.std.proofs.lemmas.Iterator.Adapters.{YieldsList-from_rev_slice}
+use Rattle.std.proofs.lemmas.Iterator.Consumers.{count_from_yields_List}
+use Rattle.std.proofs.lemmas.Iterator.Search.{YieldsList-from_take_while}
+use Rattle.std.proofs.lemmas.List.Folds.{length-prefix_len}
+use Rattle.naming.specs.Next.{front}
 use Rattle.naming.proofs.next.front_of.Goals as goal
 
-pub loop-at-init : goal.loop-at-init
-loop-at-init c = (omega arith, front-start c.args.name.now)
-
-pub loop-at-preserved : goal.loop-at-preserved
-loop-at-preserved c =
-    (omega arith, front-step c.args.name.now c.loop-at.at (omega arith) c.loop-at.invariant.0 c.if-is_ascii_digit.ensures.value c.loop-at.invariant.1)
-
-pub returns-else-is_ascii_digit : goal.returns-else-is_ascii_digit
-returns-else-is_ascii_digit c =
-    front_stop c.args.name.now c.loop-at.at (omega arith) c.loop-at.invariant.0 c.if-is_ascii_digit.ensures.value c.loop-at.invariant.1
-
-pub returns-after-loop-at : goal.returns-after-loop-at
-returns-after-loop-at c = front-none c.args.name.now c.loop-at.at (omega arith) c.loop-at.invariant.1
+pub returns : goal.returns
+unfolding front
+returns c =
+    ap (λ n. length c.args.name.now - n)
+    (count_from_yields_List c.take_while.result c.count.result c.count.ensures.ran
+    (YieldsList-from_take_while _ is_ascii_digit (YieldsList-from_rev_slice c.args.name.now cc) c.take_while.ensures.closure c.take_while.ensures.done (λ x b q k. search (rules, tests)))
+    ∙ length-prefix_len is_ascii_digit (reverse c.args.name.now))

@@ -1,71 +1,32 @@
-use Rattle.std.proofs.Common.{◌≡◌, ◌≤◌, cond, eqb, length, get_or, Some, sym, ◌∙◌, arith}
-use Rattle.std.proofs.lemmas.Bool.{cond-true, cond-false, eq-eqb, ne_eqb}
-use Rattle.paths.proofs.Steps.{shared_stops, shared-more, shared_base_left, shared_target_left, shared-all}
+use Rattle.std.proofs.Common.{eqb, take, arith, refl, sym}
+use Rattle.std.proofs.lemmas.Bool.{false≢true}
+use Rattle.std.proofs.lemmas.List.{length-take-le}
+use Rattle.std.proofs.lemmas.List.Sums.{common_prefix_len-le}
+use Rattle.paths.proofs.Steps.{last_within, shared-ends, shared-last}
 use Rattle.paths.proofs.relative.shared_end.Goals as goal
-use Rattle.paths.proofs.relative.shared_end.Goals.{then-base-i-eq46, else-base-i-eq46, then-loop-i-test+else-i-target, else-loop-i-test}
+use Rattle.paths.proofs.relative.shared_end.Goals.{else-ends_part-via-then-ends_part+else-ends_part-2, else-ends_part-via-else-ends_part}
 
-pub returns-then-base-i : goal.returns-then-base-i
-returns-then-base-i c =
+pub slice_bounds-last_dot-end : goal.slice_bounds-last_dot-end
+slice_bounds-last_dot-end c =
+    let l = common_prefix_len-le eqb c.args.base.now c.args.target.now in
+    sym (length-take-le c.common_len-same.result c.args.base.now (omega (arith, c.common_len-same.ensures)))
+
+pub returns-then-ends_part-2 : goal.returns-then-ends_part-2
+returns-then-ends_part-2 c =
+    let l = common_prefix_len-le eqb c.args.base.now c.args.target.now in
     record {
-      value = shared_stops c.args.base.now c.args.target.now c.loop-i.i c.loop-i.last c.loop-i-test.true c.if-i-target.true c.if-base-i.true ∙ c.loop-i.invariant.0;
-      fits = c.loop-i.invariant.2;
+      value = shared-ends c.args.base.now c.args.target.now c.common_len-same.result c.common_len-same.ensures (c.if-ends_part.ensures.0 refl) (c.if-ends_part-2.ensures.0 refl);
+      fits = (omega (arith, c.common_len-same.ensures), omega (arith, c.common_len-same.ensures));
     }
 
-pub loop-i-preserved : goal.loop-i-preserved
-loop-i-preserved c =
-    let new : c.if-base-i-eq46.last ≡ cond (eqb (get_or c.args.base.now c.loop-i.i 0) 46) (Some c.loop-i.i) c.loop-i.last =
-    elim c.if-base-i-eq46.branch [
-      | then-base-i-eq46 w ↦ w.last-is ∙ sym (cond-true _ _ _ (eq-eqb _ _ w.if-base-i-eq46.true))
-      | else-base-i-eq46 w ↦ w.last-is ∙ sym (cond-false _ _ _ (ne_eqb _ _ w.if-base-i-eq46.false))
-    ] in (
-      shared-more c.args.base.now c.args.target.now c.loop-i.i c.loop-i.last c.if-base-i-eq46.last c.loop-i-test.true c.if-i-target.true c.if-base-i.false new
-          ∙ c.loop-i.invariant.0,
-      (omega arith, omega arith),
-      elim c.if-base-i-eq46.branch [
-        | then-base-i-eq46 w ↦ rw w.last-is c.loop-i.invariant.1
-        | else-base-i-eq46 w ↦ rw w.last-is c.loop-i.invariant.2
-      ],
-    )
-
-pub returns-then-base-i-eq46-2 : goal.returns-then-base-i-eq46-2
-returns-then-base-i-eq46-2 c =
-    let over : length c.args.target.now ≤ c.loop-i.i =
-    elim c.loop-i-test.branch [ then-loop-i-test+else-i-target w ↦ w.if-i-target.false | else-loop-i-test w ↦ omega arith ] in
+pub returns : goal.returns
+returns c =
+    let l = common_prefix_len-le eqb c.args.base.now c.args.target.now in
+    let n = length-take-le c.common_len-same.result c.args.base.now (omega (arith, c.common_len-same.ensures)) in
     record {
-      value = sym (shared_base_left c.args.base.now c.args.target.now c.loop-i.i c.loop-i.last c.if-i-base.true over ∙ cond-true _ _ _ (eq-eqb _ _ c.if-base-i-eq46-2.true))
-          ∙ c.loop-i.invariant.0;
-      fits = c.loop-i.invariant.1;
-    }
-
-pub returns-else-base-i-eq46-2 : goal.returns-else-base-i-eq46-2
-returns-else-base-i-eq46-2 c =
-    let over : length c.args.target.now ≤ c.loop-i.i =
-    elim c.loop-i-test.branch [ then-loop-i-test+else-i-target w ↦ w.if-i-target.false | else-loop-i-test w ↦ omega arith ] in
-    record {
-      value = sym (shared_base_left c.args.base.now c.args.target.now c.loop-i.i c.loop-i.last c.if-i-base.true over ∙ cond-false _ _ _ (ne_eqb _ _ c.if-base-i-eq46-2.false))
-          ∙ c.loop-i.invariant.0;
-      fits = c.loop-i.invariant.2;
-    }
-
-pub returns-then-target-i-eq46 : goal.returns-then-target-i-eq46
-returns-then-target-i-eq46 c =
-    record {
-      value = sym (shared_target_left c.args.base.now c.args.target.now c.loop-i.i c.loop-i.last c.if-i-base.false c.if-i-target-2.true ∙ cond-true _ _ _ (eq-eqb _ _ c.if-target-i-eq46.true))
-          ∙ c.loop-i.invariant.0;
-      fits = c.loop-i.invariant.1;
-    }
-
-pub returns-else-target-i-eq46 : goal.returns-else-target-i-eq46
-returns-else-target-i-eq46 c =
-    record {
-      value = sym (shared_target_left c.args.base.now c.args.target.now c.loop-i.i c.loop-i.last c.if-i-base.false c.if-i-target-2.true ∙ cond-false _ _ _ (ne_eqb _ _ c.if-target-i-eq46.false))
-          ∙ c.loop-i.invariant.0;
-      fits = c.loop-i.invariant.2;
-    }
-
-pub returns-else-i-target-2 : goal.returns-else-i-target-2
-returns-else-i-target-2 c =
-    record {
-      value = sym (shared-all c.args.base.now c.args.target.now c.loop-i.i c.loop-i.last c.if-i-base.false c.if-i-target-2.false) ∙ c.loop-i.invariant.0;
-      fits = c.loop-i.invariant.1;
+      value = shared-last c.args.base.now c.args.target.now c.common_len-same.result c.last_dot.result c.common_len-same.ensures (λ e f. elim c.else-ends_part.branch [
+        | else-ends_part-via-then-ends_part+else-ends_part-2 w ↦ absurd (false≢true (w.if-ends_part-2.ensures.1 f))
+        | else-ends_part-via-else-ends_part w ↦ absurd (false≢true (w.if-ends_part.ensures.1 e))
+      ]) c.last_dot.ensures;
+      fits = last_within (take c.common_len-same.result c.args.base.now) c.last_dot.result _ _ c.last_dot.ensures (omega arith) (omega (arith, c.common_len-same.ensures));
     }

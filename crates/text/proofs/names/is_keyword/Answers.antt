@@ -3,4 +3,4 @@ use Rattle.text.proofs.names.is_keyword.Goals as goal
 
 pub returns : goal.returns
 unfolding keyword
-returns c = c.is_among.ensures
+returns c = c.contains.ensures.value
