@@ -3,7 +3,7 @@ use Rattle.std.proofs.Common.{◌≡◌, ℕ, zero, suc, ◌+◌, ◌-◌, ◌<�
 use Rattle.std.proofs.lemmas.Result.{err_from_is_err_and}
 use Rattle.model.specs.declared.cursor.Cursor.{Cursor}
 use Rattle.model.specs.declared.reader.Reader.{Reader}
-use Rattle.model.specs.declared.files.Listing.{Listing}
+use Rattle.model.specs.declared.modules.Lister.{Lister}
 use Rattle.model.specs.declared.fault.Layout.{Layout}
 use Rattle.model.specs.declared.fault.Fault.{Fault}
 use Rattle.model.specs.declared.fault.Fault.TheVariants.{Broken, Memory}
@@ -83,10 +83,10 @@ listed_by one stands before at f k s p =
     ap (λ (b : Bool). audit_list before.end (one before.end) b before.rest.now f) s ∙ ap (λ (q : Out ℕ). bind q (λ k r. laps (one before.end) k r f)) p.is ∙ ap (λ (n : ℕ). laps (one n) k at.rest.now f) (sym p.end)
 
 -- the same at the level of modules, where memory may lack
-pub gathers_by : {T : Type 0} (before mid after : Reader) (list between listed : Listing) (r : Result T Fault) (one two : List ℕ → Gathered → Out Gathered) → one before.at.rest.now (gathered before.found list) ≡ two mid.at.rest.now (gathered mid.found between) → mid.at.end ≡ before.at.end → Gathers mid after between listed r two → Gathers before after list listed r one
-gathers_by before mid after list between listed (Ok v) one two e f g = record { is = e ∙ g.is; end = g.end ∙ f }
-gathers_by before mid after list between listed (Err (Broken x)) one two e f g = e ∙ g
-gathers_by before mid after list between listed (Err Memory) one two e f g = tt
+pub gathers_by : {T : Type 0} (before mid after : Lister) (r : Result T Fault) (one two : List ℕ → Gathered → Out Gathered) → one before.reader.at.rest.now (gathered before.reader.found before.list) ≡ two mid.reader.at.rest.now (gathered mid.reader.found mid.list) → mid.reader.at.end ≡ before.reader.at.end → Gathers mid after r two → Gathers before after r one
+gathers_by before mid after (Ok v) one two e f g = record { is = e ∙ g.is; end = g.end ∙ f }
+gathers_by before mid after (Err (Broken x)) one two e f g = e ∙ g
+gathers_by before mid after (Err Memory) one two e f g = tt
 
 pub module_at-zero : (n d p : ℕ) (h : Option ℕ) (bs : List ℕ) (g : Gathered) → d ≡ 0 → p ≡ place n bs → audit_module n d h bs g ≡ fault p
 unfolding audit_module

@@ -3,6 +3,7 @@ use Rattle.std.specs.Prelude.{◌≡◌, ℕ, List, [], map, Ok, Err, vec_items,
 use Rattle.std.specs.Borrow.{Bor, MutBor}
 use Rattle.model.specs.declared.cursor.Cursor.{Cursor}
 use Rattle.model.specs.declared.reader.Reader.{Reader}
+use Rattle.model.specs.declared.modules.Lister.{Lister}
 use Rattle.model.specs.declared.fault.Layout.{Layout}
 use Rattle.model.specs.declared.fault.Fault.{Fault}
 use Rattle.model.specs.declared.fault.Fault.TheVariants.{Broken, Memory}
@@ -78,10 +79,10 @@ abbrev pub gathered : Findings → Listing → Gathered
 gathered found list = record { found = found; files = map file_of (vec_items list.modules); siblings = map held_of (vec_items list.modules) }
 
 -- the same of a pass that may lack memory, of which it then says nothing
-abbrev pub Gathers : {T : Type 0} → Reader → Reader → Listing → Listing → Result T Fault → (List ℕ → Gathered → Out Gathered) → Type 0
-Gathers before after list listed (Ok v) one = Went one before.at after.at (gathered before.found list) (gathered after.found listed)
-Gathers before after list listed (Err (Broken e)) one = one before.at.rest.now (gathered before.found list) ≡ fault e.place
-Gathers before after list listed (Err Memory) one = Unit {0}
+abbrev pub Gathers : {T : Type 0} → Lister → Lister → Result T Fault → (List ℕ → Gathered → Out Gathered) → Type 0
+Gathers before after (Ok v) one = Went one before.reader.at after.reader.at (gathered before.reader.found before.list) (gathered after.reader.found after.list)
+Gathers before after (Err (Broken e)) one = one before.reader.at.rest.now (gathered before.reader.found before.list) ≡ fault e.place
+Gathers before after (Err Memory) one = Unit {0}
 
 -- what a reference and a declared name of the code stand for
 abbrev pub use_of : UseOf → Use

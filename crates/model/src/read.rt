@@ -5,6 +5,7 @@ use crate::cursor::Cursor;
 use crate::fault::{Fault, Layout};
 use crate::files::Listing;
 use crate::findings::Findings;
+use crate::modules::Lister;
 use crate::reader::Reader;
 use std::alloc::Global;
 
@@ -30,29 +31,31 @@ pub fn read_model<'a>(heap: Global, model: &'a [u8]) -> Result<Audit<'a>, Fault>
 fn pass<'a>(heap: Global, model: &'a [u8]) -> Result<Audit<'a>, Fault>
     ensures { Audits model.now result }
 {
-    let mut reader = Reader {
-        at: Cursor::new(model),
-        found: Findings {
-            names: None,
-            values: None,
-            empty: None,
+    let mut lister = Lister {
+        reader: Reader {
+            at: Cursor::new(model),
+            found: Findings {
+                names: None,
+                values: None,
+                empty: None,
+            },
+        },
+        list: Listing {
+            modules: Vec::new(heap),
         },
     };
-    let mut list = Listing {
-        modules: Vec::new(heap),
-    };
-    let start = reader.at.place();
-    let version = reader.at.byte()?;
+    let start = lister.reader.at.place();
+    let version = lister.reader.at.byte()?;
     if version != VERSION {
         return Err(Fault::Broken(Layout { place: start }));
     }
-    reader.module(&mut list, None, DEEPEST)?;
-    if !reader.at.is_at_end() {
-        let place = reader.at.place();
+    lister.module(None, DEEPEST)?;
+    if !lister.reader.at.is_at_end() {
+        let place = lister.reader.at.place();
         return Err(Fault::Broken(Layout { place }));
     }
     Ok(Audit {
-        found: reader.found,
-        list,
+        found: lister.reader.found,
+        list: lister.list,
     })
 }
