@@ -168,6 +168,7 @@ impl<'a> Cursor<'a> {
         ensures rest { self.new.rest.now ≡ skips_at (skip_at depth) n self.old.rest.now }
         ensures end { self.new.end ≡ self.old.end }
     {
+        // `times` is for steps that may fail, which these do not.
         for _ in 0..n {
             self.skip_expr(depth);
         }
