@@ -1,5 +1,5 @@
 -- What so many steps lead to.
-use Rattle.std.proofs.Common.{◌≡◌, ℕ, zero, suc, ◌+◌, ◌-◌, ◌<◌, Bool, List, [], ◌∷◌, ◌++◌, vec_items, map, Ok, Result, refl, ap, ◌∙◌, subst, arith, MutBor}
+use Rattle.std.proofs.Common.{◌≡◌, ℕ, zero, suc, ◌+◌, ◌-◌, ◌<◌, ◌≤◌, Bool, List, [], ◌∷◌, ◌++◌, vec_items, map, Ok, Result, refl, ap, ◌∙◌, subst, arith, MutBor}
 use Rattle.std.specs.Fn.{Shared}
 use Rattle.walk.specs.Repeats.{Steps, Repeats}
 use Rattle.walk.specs.Total.{rows, count, listed}
@@ -9,7 +9,7 @@ use Rattle.model.specs.Steps.{declared_of}
 use Rattle.walk.specs.Walks.{Walks, Tells, Owns, left, uses_of, gathered}
 use Rattle.std.specs.declared.alloc.AllocError.{AllocError}
 use Rattle.model.specs.declared.uses.Declared.{Declared as DeclaredOf}
-use Rattle.walk.specs.Collects.{Declares}
+use Rattle.walk.specs.Collects.{Declares, DeclaresEach}
 use Rattle.walk.specs.declared.walker.Walker.{Walker}
 use Rattle.walk.specs.declared.collector.Collector.{Collector}
 use Rattle.model.specs.Uses.{Use, Declared}
@@ -19,6 +19,12 @@ step_made g f x y r v e h = record { shown = x; shows = refl; value = v; left = 
 
 pub declares_made : {F : Type 0} (g : Shared F (MutBor Walker × (ℕ × Unit {0})) (Result DeclaredOf AllocError × (MutBor Walker × Unit {0}))) (f : F) (depth : ℕ) (x y : MutBor Walker) (r : Result DeclaredOf AllocError) (one : DeclaredOf) (s t : Collector) → r ≡ Ok one → g.post f (x, (depth, tt)) (r, (y, tt)) → x.now ≡ s.walker → y.now ≡ t.walker → vec_items t.declared ≡ vec_items s.declared ++ one ∷ [] → Declares g f depth s t
 declares_made g f depth x y r one s t e h ex ey ed = record { shown = x; shows = ex; one = one; left = y; met = subst (λ o. g.post f (x, (depth, tt)) (o, (y, tt))) e h; leaves = ey; declared = ed }
+
+pub declares_each : {F : Type 0} (g : Shared F (MutBor Walker × (ℕ × Unit {0})) (Result DeclaredOf AllocError × (MutBor Walker × Unit {0}))) (f : F) (stands : Bool) (n : ℕ) (c0 c1 c2 : Collector) → n ≡ (count stands (left c0.walker)).0 → left c1.walker ≡ (count stands (left c0.walker)).1 → c1.walker.at.end ≡ c0.walker.at.end → gathered c1.walker (vec_items c1.declared) ≡ gathered c0.walker (vec_items c0.declared) → Repeats (Declares g f 64) n c1 c2 → DeclaresEach g f 64 stands c0 c2
+declares_each g f stands n c0 c1 c2 en el ee eg r = record { counted = c1; rest = el; state = eg; end = ee; each = subst (λ k. Repeats (Declares g f 64) k c1 c2) en r }
+
+pub repeats_none : {S : Type 0} (step : S → S → Type 0) (n i : ℕ) (s : S) → n ≤ i → Repeats step (n - i) s s
+repeats_none step n i s h = let e : n - i ≡ 0 = omega arith in rw e refl
 
 pub repeats_more : {S : Type 0} (step : S → S → Type 0) (n i : ℕ) (s m t : S) → i < n → step s m → Repeats step (n - (i + 1)) m t → Repeats step (n - i) s t
 repeats_more step n i s m t h one more = let e : n - i ≡ suc (n - (i + 1)) = omega arith in rw e (m, one, more)
@@ -68,11 +74,12 @@ module _ {A L F : Type 0} (none : L) (more : A → L → L) (one : ℕ → List 
       let ds : map declared_of (vec_items t.declared) ≡ map declared_of (vec_items s.declared) ++ declared_of d.one ∷ [] = ap (map declared_of) d.declared ∙ map_push declared_of (vec_items s.declared) d.one in
       (w.rest, λ i. (w.uses i, (ds ∙ ap (λ (x : Declared). map declared_of (vec_items s.declared) ++ x ∷ []) w.declared) i), w.end)
 
-  pub owned : (stands : Bool) (n : ℕ) (c0 c1 c2 : Collector) → n ≡ (count stands (all_left c0)).0 → all_left c1 ≡ (count stands (all_left c0)).1 → c1.walker.at.end ≡ c0.walker.at.end → all_gathered c1 ≡ all_gathered c0 → Repeats (Declares g f 64) n c1 c2 → ((x y : MutBor Walker) (d : DeclaredOf) → g.post f (x, (64, tt)) (Ok d, (y, tt)) → Tells put tell (one x.now.at.end) x.now y.now d) → Owns all (listed none more (one c0.walker.at.end) stands) c0.walker c2.walker (vec_items c0.declared) (vec_items c2.declared)
-  owned stands n c0 c1 c2 en el ee eg r tells =
-      let x = repeated all_left (λ c. c.walker.at.end) all_gathered none more one (own_put put tell) all nothing cons (Declares g f 64) (told tells) n c1.walker.at.end c1 c2 refl r in
+  pub owned : (stands : Bool) (c0 c2 : Collector) → DeclaresEach g f 64 stands c0 c2 → ((x y : MutBor Walker) (d : DeclaredOf) → g.post f (x, (64, tt)) (Ok d, (y, tt)) → Tells put tell (one x.now.at.end) x.now y.now d) → Owns all (listed none more (one c0.walker.at.end) stands) c0.walker c2.walker (vec_items c0.declared) (vec_items c2.declared)
+  owned stands c0 c2 r tells =
+      let n : ℕ = (count stands (all_left c0)).0 in
+      let x = repeated all_left (λ c. c.walker.at.end) all_gathered none more one (own_put put tell) all nothing cons (Declares g f 64) (told tells) n r.counted.walker.at.end r.counted c2 refl r.each in
       record {
-        rest = x.0 ∙ (λ i. (rows none more (one (ee i)) (en i) (el i)).1);
-        state = x.1 ∙ (λ i. all (rows none more (one (ee i)) (en i) (el i)).0 (eg i));
-        end = x.2 ∙ ee;
+        rest = x.0 ∙ (λ i. (rows none more (one (r.end i)) n (r.rest i)).1);
+        state = x.1 ∙ (λ i. all (rows none more (one (r.end i)) n (r.rest i)).0 (r.state i));
+        end = x.2 ∙ r.end;
       }

@@ -1,7 +1,7 @@
 // What a file of the model declares and what it refers to.
 ghost use Rattle.std.specs.Prelude.{IfOk, OnOk};
-ghost use Rattle.walk.specs.Repeats.{Repeats};
-ghost use Rattle.walk.specs.Collects.{Collects, Declares};
+ghost use Rattle.model.specs.Read.{deepest_allowed};
+ghost use Rattle.walk.specs.Collects.{Collects, DeclaresEach};
 
 use crate::cursor::{Cursor, stands};
 use crate::times::times;
@@ -28,15 +28,17 @@ pub(crate) struct Collector<'a> {
 }
 
 impl<'a> Collector<'a> {
-    // The next n records, which `item` walks one by one.
+    // A list field of a module: its count, and then as many records, each walked by `item`.
     fn own<F: Fn(&mut Walker<'a>, u8) -> Result<Declared<'a>, AllocError>>(
         &mut self,
-        n: u16,
+        stands: bool,
         item: F,
     ) -> Result<(), AllocError>
         requires { F.IsAlwaysCallable item }
-        ensures { OnOk result (Repeats (Declares F.Fn item 64) n self.old self.new) }
+        ensures { OnOk result (DeclaresEach F.Fn item deepest_allowed stands self.old self.new) }
     {
+        let n = self.walker.at.count(stands);
+        // By `times` this would be a closure around a closure, which is no plainer.
         for _ in 0..n {
             let one = item(&mut self.walker, DEEPEST)?;
             self.declared.push(one)?;
@@ -57,12 +59,9 @@ pub fn collect<'a>(heap: Global, model: &'a [u8], file: File) -> Result<Collecte
         },
         declared: Vec::new(heap),
     };
-    let classes = all.walker.at.count(stands(map, MODULE_CLASSES));
-    all.own(classes, Walker::walk_class)?;
-    let functions = all.walker.at.count(stands(map, MODULE_FUNCTIONS));
-    all.own(functions, Walker::walk_function)?;
-    let attributes = all.walker.at.count(stands(map, MODULE_ATTRIBUTES));
-    all.own(attributes, Walker::walk_attribute)?;
+    all.own(stands(map, MODULE_CLASSES), Walker::walk_class)?;
+    all.own(stands(map, MODULE_FUNCTIONS), Walker::walk_function)?;
+    all.own(stands(map, MODULE_ATTRIBUTES), Walker::walk_attribute)?;
     Ok(Collected {
         declared: all.declared,
         uses: all.walker.uses,

@@ -132,7 +132,7 @@ impl<'a> Cursor<'a> {
     }
 
     // Passes over an expression that may go this deep.
-    #[cycle(skip_expr_skip_list_skip_parts)]
+    #[cycle(skips)]
     pub fn skip_expr(&mut self, depth: u8)
         ensures rest { self.new.rest.now ≡ skip_at depth self.old.rest.now }
         ensures end { self.new.end ≡ self.old.end }
@@ -143,7 +143,7 @@ impl<'a> Cursor<'a> {
         }
     }
 
-    #[cycle(skip_expr_skip_list_skip_parts)]
+    #[cycle(skips)]
     fn skip_parts(&mut self, head: Expression<'a>, depth: u8)
         ensures rest { self.new.rest.now ≡ skip_parts_at (skip_at depth) (head_of head.entry) self.old.rest.now }
         ensures end { self.new.end ≡ self.old.end }
@@ -157,17 +157,17 @@ impl<'a> Cursor<'a> {
                 self.skip_expr(depth);
                 self.skip_expr(depth);
             }
-            Expression::Tuple(n) => self.skip_list(n, depth),
-            Expression::List(n) => self.skip_list(n, depth),
+            Expression::Tuple(n) | Expression::List(n) => self.skip_list(n, depth),
             _ => {}
         }
     }
 
-    #[cycle(skip_expr_skip_list_skip_parts)]
+    #[cycle(skips)]
     fn skip_list(&mut self, n: u16, depth: u8)
         ensures rest { self.new.rest.now ≡ skips_at (skip_at depth) n self.old.rest.now }
         ensures end { self.new.end ≡ self.old.end }
     {
+        // `times` is for steps that may fail, which these do not.
         for _ in 0..n {
             self.skip_expr(depth);
         }

@@ -18,8 +18,20 @@ impl<'a> Header<'a> {
         ensures name { result.name.now ≡ (text_at (number_at (drop place model.now)).1).0 }
     {
         let mut at = Cursor::at(model, place);
-        let map = at.number();
-        let name = at.text();
+        at.header()
+    }
+}
+
+impl<'a> Cursor<'a> {
+    // Of the next record.
+    pub fn header(&mut self) -> Header<'a>
+        ensures map { result.map ≡ (number_at self.old.rest.now).0 }
+        ensures name { result.name.now ≡ (text_at (number_at self.old.rest.now).1).0 }
+        ensures rest { self.new.rest.now ≡ (text_at (number_at self.old.rest.now).1).1 }
+        ensures end { self.new.end ≡ self.old.end }
+    {
+        let map = self.number();
+        let name = self.text();
         Header { map, name }
     }
 }

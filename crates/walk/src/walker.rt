@@ -8,6 +8,7 @@ ghost use Rattle.walk.specs.Puts.{expr_put, exprs_put, each_put, any_put, value_
 ghost use Rattle.walk.specs.Walks.{Walks, Tells, Noted};
 
 use crate::cursor::{Cursor, stands};
+use crate::headers::Header;
 use crate::times::times;
 use model::maps::{
     ANNOTATION, CLASS_ATTRIBUTES, CLASS_BASES, CLASS_DECORATORS, CLASS_INNER, CLASS_METHODS,
@@ -32,7 +33,7 @@ impl<'a> Walker<'a> {
         Ok(())
     }
 
-    #[cycle(walk_expr_walk_list_walk_parts)]
+    #[cycle(exprs)]
     fn walk_expr(&mut self, depth: u8) -> Result<(), AllocError>
         ensures { OnOk result (Walks expr_put (expr_at self.old.at.end depth) self.old self.new) }
     {
@@ -45,7 +46,7 @@ impl<'a> Walker<'a> {
     }
 
     // A Name refers to builtins, and an Attribute of a Name to what the Name says.
-    #[cycle(walk_expr_walk_list_walk_parts)]
+    #[cycle(exprs)]
     fn walk_parts(
         &mut self,
         place: usize,
@@ -71,14 +72,13 @@ impl<'a> Walker<'a> {
                 self.walk_expr(depth)?;
                 self.walk_expr(depth)
             }
-            Expression::Tuple(n) => self.walk_list(n, depth),
-            Expression::List(n) => self.walk_list(n, depth),
+            Expression::Tuple(n) | Expression::List(n) => self.walk_list(n, depth),
             _ => Ok(()),
         }
     }
 
     // The next n expressions.
-    #[cycle(walk_expr_walk_list_walk_parts)]
+    #[cycle(exprs)]
     fn walk_list(&mut self, n: u16, depth: u8) -> Result<(), AllocError>
         ensures { OnOk result (Walks exprs_put (rows_at no_expr add_expr (expr_at self.old.at.end depth) n) self.old self.new) }
     {
@@ -130,8 +130,7 @@ impl<'a> Walker<'a> {
     fn walk_argument(&mut self, depth: u8) -> Result<(), AllocError>
         ensures { OnOk result (Walks argument_put (argument_at self.old.at.end depth) self.old self.new) }
     {
-        let map = self.at.number();
-        self.at.text();
+        let map = self.at.header().map;
         self.walk_pair(map, depth)
     }
 
@@ -149,8 +148,7 @@ impl<'a> Walker<'a> {
         if !there {
             return Ok(());
         }
-        let map = self.at.number();
-        self.at.text();
+        let map = self.at.header().map;
         self.walk_annotation(stands(map, ANNOTATION), depth)
     }
 
@@ -159,8 +157,7 @@ impl<'a> Walker<'a> {
         ensures { IfOk result (λ v. Tells function_put function_declared (function_at self.old.at.end depth) self.old self.new v) }
     {
         let place = self.at.place();
-        let map = self.at.number();
-        let name = self.at.text();
+        let Header { map, name } = self.at.header();
         self.walk_exprs(stands(map, FUNCTION_DECORATORS), depth)?;
         self.walk_arguments(stands(map, FUNCTION_POSITIONAL), depth)?;
         self.walk_arguments(stands(map, FUNCTION_REGULAR), depth)?;
@@ -176,8 +173,7 @@ impl<'a> Walker<'a> {
         ensures { IfOk result (λ v. Tells attribute_put attribute_declared (attribute_at self.old.at.end depth) self.old self.new v) }
     {
         let place = self.at.place();
-        let map = self.at.number();
-        let name = self.at.text();
+        let Header { map, name } = self.at.header();
         self.walk_pair(map, depth)?;
         Ok(Declared { place, name })
     }
@@ -203,7 +199,7 @@ impl<'a> Walker<'a> {
     }
 
     // A class, which is empty where the tree may go no deeper.
-    #[cycle(walk_class_walk_class_record_walk_classes)]
+    #[cycle(classes)]
     pub(crate) fn walk_class(&mut self, depth: u8) -> Result<Declared<'a>, AllocError>
         ensures { IfOk result (λ v. Tells class_put class_declared (class_at self.old.at.end depth) self.old self.new v) }
     {
@@ -215,13 +211,12 @@ impl<'a> Walker<'a> {
     }
 
     // A class whose parts may go this deep.
-    #[cycle(walk_class_walk_class_record_walk_classes)]
+    #[cycle(classes)]
     fn walk_class_record(&mut self, depth: u8) -> Result<Declared<'a>, AllocError>
         ensures { IfOk result (λ v. Tells class_put class_declared (class_over_at self.old.at.end depth (class_at self.old.at.end depth)) self.old self.new v) }
     {
         let place = self.at.place();
-        let map = self.at.number();
-        let name = self.at.text();
+        let Header { map, name } = self.at.header();
         self.walk_exprs(stands(map, CLASS_BASES), depth)?;
         self.walk_methods(stands(map, CLASS_METHODS), depth)?;
         self.walk_attributes(stands(map, CLASS_ATTRIBUTES), depth)?;
@@ -230,7 +225,7 @@ impl<'a> Walker<'a> {
         Ok(Declared { place, name })
     }
 
-    #[cycle(walk_class_walk_class_record_walk_classes)]
+    #[cycle(classes)]
     fn walk_classes(&mut self, stands: bool, depth: u8) -> Result<(), AllocError>
         ensures { OnOk result (Walks classes_put (classes_at self.old.at.end depth stands) self.old self.new) }
     {

@@ -1,5 +1,5 @@
 use Rattle.std.proofs.Common.{◌+◌, ◌*◌}
-use Rattle.walk.proofs.walker.+walk_class_walk_class_record_walk_classes.Given as goal
+use Rattle.walk.proofs.walker.+classes.Given as goal
 
 abbrev pub decreases-Walker::walk_class : goal.decreases-Walker::walk_class
 decreases-Walker::walk_class l = 4 * l.depth

@@ -6,7 +6,7 @@ use Rattle.walk.specs.Puts.{expr_put, exprs_put}
 use Rattle.walk.specs.Walks.{left, uses_of}
 use Rattle.walk.proofs.Going.{made_by, expr-zero, walks_inside, noted_name}
 use Rattle.walk.proofs.Repeating.{walks_rows}
-use Rattle.walk.proofs.walker.+walk_expr_walk_list_walk_parts.Goals as goal
+use Rattle.walk.proofs.walker.+exprs.Goals as goal
 
 pub Walker::walk_expr-returns-then-depth-eq0 : goal.Walker::walk_expr-returns-then-depth-eq0
 Walker::walk_expr-returns-then-depth-eq0 t c =

@@ -1,6 +1,6 @@
 use Rattle.std.proofs.Common.{◌≡◌, ◌+◌, ◌-◌, ◌*◌}
 use Rattle.walk.specs.Puts.{skip, skips}
-use Rattle.walk.proofs.cursor.Cursor.+skip_expr_skip_list_skip_parts.Given as goal
+use Rattle.walk.proofs.cursor.Cursor.+skips.Given as goal
 
 abbrev pub decreases-skip_expr : goal.decreases-skip_expr
 decreases-skip_expr l = 3 * l.depth

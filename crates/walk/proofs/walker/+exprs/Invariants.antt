@@ -1,5 +1,5 @@
 use Rattle.std.proofs.Common.{◌+◌, ◌*◌}
-use Rattle.walk.proofs.walker.+walk_expr_walk_list_walk_parts.Given as goal
+use Rattle.walk.proofs.walker.+exprs.Given as goal
 
 abbrev pub decreases-Walker::walk_expr : goal.decreases-Walker::walk_expr
 decreases-Walker::walk_expr l = 4 * l.depth

@@ -5,7 +5,7 @@ use Rattle.walk.specs.Total.{one_class}
 use Rattle.walk.specs.Puts.{class_put, classes_put}
 use Rattle.walk.proofs.Going.{made_by, tells_empty, tells-inside}
 use Rattle.walk.proofs.Repeating.{walks_listed}
-use Rattle.walk.proofs.walker.+walk_class_walk_class_record_walk_classes.Goals as goal
+use Rattle.walk.proofs.walker.+classes.Goals as goal
 
 pub Walker::walk_class-returns-then-depth-eq0 : goal.Walker::walk_class-returns-then-depth-eq0
 Walker::walk_class-returns-then-depth-eq0 t c =

@@ -1,7 +1,7 @@
 use Rattle.std.proofs.Common.{◌+◌, ◌-◌, sym, ap, ◌∙◌, arith}
 use Rattle.walk.specs.Puts.{skip, skips}
 use Rattle.walk.proofs.Going.{skip-zero, skip-inside, skips-more}
-use Rattle.walk.proofs.cursor.Cursor.+skip_expr_skip_list_skip_parts.Goals as goal
+use Rattle.walk.proofs.cursor.Cursor.+skips.Goals as goal
 
 pub skip_expr-returns-then-depth-gt0-clause-rest : goal.skip_expr-returns-then-depth-gt0-clause-rest
 skip_expr-returns-then-depth-gt0-clause-rest t c =
