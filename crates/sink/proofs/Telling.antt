@@ -1,4 +1,4 @@
--- Whether the run of one line fits, or matches.
+-- Whether a text begins with a line and its newline.
 use Rattle.std.proofs.Common.{◌≡◌, ℕ, ◌≤◌, Bool, false, List, [], ◌∷◌, ◌++◌, length, get_or, take, drop, Decides, sym, refl, ap, ◌∙◌, arith, take_at, append_assoc}
 use mathlib.Core.Bool.{false≢true}
 use Rattle.std.proofs.lemmas.List.{take-append-drop}
