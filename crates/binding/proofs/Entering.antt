@@ -44,7 +44,7 @@ pool-grows pool more (Alias p) h = (cut-grown p.start p.len pool more h, omega (
 bindings-grown : (pool after : List ℕ) → Grows pool after → (es : List Entry) → AllByRecursion (λ e. Within (length pool) e.name) es → bindings_of after es ≡ bindings_of pool es
 bindings-grown pool after g [] h = refl
 bindings-grown pool after g (e ∷ es) h =
-    λ i. binding ((g e.name h.0).0 i) (e.from.now, e.root.now) ∷ bindings-grown pool after g es h.1 i
+    λ i. binding ((g e.name h.0).0 i) (pair_of e.target) ∷ bindings-grown pool after g es h.1 i
 
 within_grown : (pool after : List ℕ) → Grows pool after → (es : List Entry) → AllByRecursion (λ e. Within (length pool) e.name) es → (e : Entry) → Within (length after) e.name
     → AllByRecursion (λ e. Within (length after) e.name) (es ++ e ∷ [])
@@ -118,7 +118,7 @@ module _ (s s' : Binder) (t : ReferenceOf) (n : Name) (w : Text) (grows : Grows 
     lies = (grows (Alias l.part) h.lies).1;
   }
 
-  pub enters : vec_items s'.entries ≡ vec_items s.entries ++ record { name = n; from = t.from; root = t.name } ∷ []
+  pub enters : vec_items s'.entries ≡ vec_items s.entries ++ record { name = n; target = t } ∷ []
       → tree.Updates reference_cmp s.targets s'.targets t (Some n)
       → tree.IsOrdered reference_cmp s'.targets → bag.IsOrdered text_cmp s'.names → bag.IsOrdered alias_cmp s'.aliases → tree.IsOrdered text_cmp s'.lasts
       → ((q : Bor (List ℕ)) → ((o : Option Last) → IfSome o (Started (pool_of s) (bindings_in s) q.now) → IfSome o (Started (pool_of s') (bindings_in s ++ binding w (pair_of t) ∷ []) q.now)) → IfSome (tree.get text_cmp s'.lasts q) (Started (pool_of s') (bindings_in s ++ binding w (pair_of t) ∷ []) q.now))
@@ -126,7 +126,7 @@ module _ (s s' : Binder) (t : ReferenceOf) (n : Name) (w : Text) (grows : Grows 
       → (bag.contains text_cmp s'.names q || bag.contains alias_cmp s'.aliases v) ≡ (same_text_of q.now w || (bag.contains text_cmp s.names q || bag.contains alias_cmp s.aliases v)))
       → Enters s w (pair_of t) n s'
   enters listed put ot on oa ol starts has =
-      let e : Entry = record { name = n; from = t.from; root = t.name } in
+      let e : Entry = record { name = n; target = t } in
       let more : bindings_in s' ≡ bindings_in s ++ binding w (pair_of t) ∷ [] =
       ap (bindings_of (pool_of s')) listed ∙ map-append (binding_of (pool_of s')) (vec_items s.entries) (e ∷ [])
       ∙ (λ i. bindings-grown (pool_of s) (pool_of s') grows (vec_items s.entries) x.within i ++ binding (is i) (pair_of t) ∷ []) in

@@ -1,5 +1,5 @@
 -- What binding the names of a file answers.
-use Rattle.std.specs.Prelude.{◌≡◌, cond, List, None, vec_items, Option}
+use Rattle.std.specs.Prelude.{◌≡◌, cond, List, None, Ok, Err, vec_items, Option, Result}
 use Rattle.std.specs.Option.{option_map}
 use Rattle.std.specs.BTreeMap as tree
 use Rattle.model.specs.Tree.{Text}
@@ -8,8 +8,8 @@ use Rattle.model.specs.declared.uses.Reference.{Reference as ReferenceOf}
 use Rattle.references.specs.References.{Reference, pair_of}
 use Rattle.references.specs.Kept.{reference_cmp}
 use Rattle.binding.specs.declared.names.Names.{Names}
-use Rattle.binding.specs.declared.names.Bound.{Bound}
-use Rattle.binding.specs.declared.names.Bound.TheVariants.{Named, Exhausted}
+use Rattle.binding.specs.declared.fault.Fault.{Fault}
+use Rattle.binding.specs.declared.fault.Fault.TheVariants.{Exhausted, Memory}
 use Rattle.binding.specs.Binding.{Binding, by_number, name_of, target_of, take_all_of, bound, exhausted, declared_by}
 use Rattle.binding.specs.Held.{text_of, bindings_of}
 
@@ -30,6 +30,11 @@ pub record Holds (own : Text) (ds : List Text) (rs : List Reference) (n : Names)
   pub bindings : take_all_of by_number (declared_by own ds) rs ≡ bound (bindings_held n)
   pub renames : (r : ReferenceOf) → name_held n r ≡ name_among rs (bindings_held n) (pair_of r)
 
-abbrev pub BindsNames : Text → List Text → List Reference → Bound → Type 0
-BindsNames own ds rs (Named n) = Holds own ds rs n
-BindsNames own ds rs (Exhausted r) = take_all_of by_number (declared_by own ds) rs ≡ exhausted (pair_of r)
+-- what a fault says: the first reference for which there is no name; of want of memory nothing follows
+abbrev pub Explains : Text → List Text → List Reference → Fault → Type 0
+Explains own ds rs (Exhausted r) = take_all_of by_number (declared_by own ds) rs ≡ exhausted (pair_of r)
+Explains own ds rs Memory = Unit {0}
+
+abbrev pub BindsNames : Text → List Text → List Reference → Result Names Fault → Type 0
+BindsNames own ds rs (Ok n) = Holds own ds rs n
+BindsNames own ds rs (Err e) = Explains own ds rs e

@@ -17,6 +17,7 @@ use Rattle.references.specs.Kept.{text_cmp, reference_cmp}
 use Rattle.binding.specs.declared.name.Name.{Name}
 use Rattle.binding.specs.declared.name.Name.TheVariants.{Model, Alias}
 use Rattle.binding.specs.declared.name.Last.{Last}
+use Rattle.binding.specs.declared.name.Proposal.{Proposal}
 use Rattle.binding.specs.declared.binder.Binder.{Binder}
 use Rattle.binding.specs.Binding.{Binding, binding, Target, by_number, find, name_of, chosen, step, declared_by}
 use Rattle.binding.specs.Held.{text_of, bindings_of}
@@ -109,9 +110,9 @@ free_from zero b o = None
 free_from (suc k) b o = chosen o (λ w. not (is_some (find b w))) (free_from k b (following o))
 
 -- of n names from the next one on
-abbrev pub FreeAlias : List Binding → Text → ℕ → Option (Vec ℕ Global × ℕ) → Type 0
+abbrev pub FreeAlias : List Binding → Text → ℕ → Option Proposal → Type 0
 FreeAlias b root n None = free_from n b (next_name root) ≡ None
-FreeAlias b root n (Some p) = (free_from n b (next_name root) ≡ Some (vec_items p.0)) × Comes b root (vec_items p.0) p.1
+FreeAlias b root n (Some p) = (free_from n b (next_name root) ≡ Some (vec_items p.name)) × Comes b root (vec_items p.name) p.number
 
 -- a name that is free is not declared
 pub record OnlyDeclared (own : Text) (s : Binder) : Type 0 where

@@ -1,14 +1,13 @@
 // Binding all names of a file.
-ghost use Rattle.std.specs.Prelude.{◌≡◌, [], map, IfOk};
+ghost use Rattle.std.specs.Prelude.{map, IfOk};
 ghost use Rattle.model.specs.Steps.{declared_of};
 ghost use Rattle.references.specs.References.{name_of as declared_name, pair_of};
-ghost use Rattle.binding.specs.Binding.{declared_by};
 ghost use Rattle.binding.specs.Named.{BindsNames};
-ghost use Rattle.binding.specs.Sound.{Sound, Declares, bindings_in};
+ghost use Rattle.binding.specs.Sound.{Declares};
 
 use crate::binder::Binder;
-use crate::name::Name;
-use crate::names::{Bound, Names};
+use crate::fault::Fault;
+use crate::names::Names;
 use model::Declared;
 use references::{Reference, split_root};
 use std::alloc::{AllocError, Global};
@@ -35,26 +34,25 @@ pub fn bind_names<'a>(
     own: &'a [u8],
     declared: &[Declared<'a>],
     references: &[Reference<'a>],
-) -> Result<Bound<'a>, AllocError>
-    ensures { IfOk result (λ v. BindsNames own.now (map declared_name (map declared_of declared.now)) (map pair_of references.now) v) }
+) -> Result<Names<'a>, Fault<'a>>
+    ensures { BindsNames own.now (map declared_name (map declared_of declared.now)) (map pair_of references.now) result }
 {
     let mut binder = declare(heap, own, declared)?;
-    let mut renaming: BTreeMap<Reference<'a>, Name<'a>> = BTreeMap::new(heap);
+    let mut renaming = BTreeMap::new(heap);
     for r in references {
         let (root, _) = split_root(r.name);
         let target = Reference {
             from: r.from,
             name: root,
         };
-        let bound = binder.bind(heap, target)?;
-        let Some(name) = bound else {
-            return Ok(Bound::Exhausted(*r));
+        let Some(name) = binder.bind(heap, target)? else {
+            return Err(Fault::Exhausted(*r));
         };
         renaming.insert(*r, name)?;
     }
-    Ok(Bound::Named(Names {
+    Ok(Names {
         pool: binder.pool,
         entries: binder.entries,
         renaming,
-    }))
+    })
 }

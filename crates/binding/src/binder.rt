@@ -4,12 +4,14 @@ ghost use Rattle.references.specs.References.{pair_of};
 ghost use Rattle.binding.specs.Binding.{find, name_of};
 ghost use Rattle.binding.specs.Sound.{Indexed, Sound, Enters, Binds, Shows, OnlyDeclared, DeclaresOne, Reached, Comes, FreeAlias, pool_of, bindings_in};
 
-use crate::name::{Entry, Last, Name, Part, part_of};
+use crate::name::{Entry, Last, Name, Part, Proposal, part_of};
 use naming::next_name;
 use references::Reference;
 use std::alloc::{AllocError, Global};
 use std::collections::{BTreeMap, BTreeSet};
 
+// That the indexes hold what the bindings say stands in the contracts. It can be no ghost field: where an insert fails, those
+// before it are made already, and a ghost field has to hold at that `?` too.
 #[derive(Drop)]
 pub(crate) struct Binder<'a> {
     pub(crate) pool: Vec<u8>,
@@ -42,10 +44,7 @@ impl<'a> Binder<'a> {
         requires { Indexed self.now }
         ensures { result ≡ is_some (find (bindings_in self.now) name.now) }
     {
-        if self.names.contains(name) {
-            return true;
-        }
-        self.aliases.contains(name)
+        self.names.contains(name) || self.aliases.contains(name)
     }
 
     // The name that a target has.
@@ -57,37 +56,43 @@ impl<'a> Binder<'a> {
     }
 
     // A proposal for the root, which is bound, up to which all are bound, and its number.
-    fn start(&self, heap: Global, root: &[u8]) -> Result<(Vec<u8>, usize), AllocError>
+    fn start(&self, heap: Global, root: &[u8]) -> Result<Proposal, AllocError>
         requires indexed { Indexed self.now }
         requires held { is_some (find (bindings_in self.now) root.now) ≡ true }
-        ensures { IfOk result (λ p. Reached (bindings_in self.now) root.now p.0.items p.1) }
+        ensures { IfOk result (λ p. Reached (bindings_in self.now) root.now p.name.items p.number) }
     {
         match self.lasts.get(root) {
             Some(last) => {
                 let name = Vec::from_slice(heap, part_of(self.pool.as_slice(), last.part))?;
-                Ok((name, last.number))
+                Ok(Proposal {
+                    name,
+                    number: last.number,
+                })
             }
             None => {
                 let name = Vec::from_slice(heap, root)?;
-                Ok((name, 0))
+                Ok(Proposal { name, number: 0 })
             }
         }
     }
 
     // The first name after the root, which is bound, that is bound to nothing, and its number among the proposals.
-    fn free_alias(&self, heap: Global, root: &[u8]) -> Result<Option<(Vec<u8>, usize)>, AllocError>
+    fn free_alias(&self, heap: Global, root: &[u8]) -> Result<Option<Proposal>, AllocError>
         requires indexed { Indexed self.now }
         requires held { is_some (find (bindings_in self.now) root.now) ≡ true }
         ensures { IfOk result (λ o. FreeAlias (bindings_in self.now) root.now (length self.now.entries.items) o) }
     {
         let count = self.entries.len();
-        let (mut name, from) = self.start(heap, root)?;
-        for n in from..count {
+        let Proposal { mut name, number } = self.start(heap, root)?;
+        for n in number..count {
             let Some(next) = next_name(heap, name.as_slice())? else {
                 return Ok(None);
             };
             if !self.is_bound(next.as_slice()) {
-                return Ok(Some((next, n + 1)));
+                return Ok(Some(Proposal {
+                    name: next,
+                    number: n + 1,
+                }));
             }
             name = next;
         }
@@ -103,11 +108,7 @@ impl<'a> Binder<'a> {
         let name = Name::Model(target.name);
         self.names.insert(target.name)?;
         self.targets.insert(target, name)?;
-        self.entries.push(Entry {
-            name,
-            from: target.from,
-            root: target.name,
-        })?;
+        self.entries.push(Entry { name, target })?;
         Ok(name)
     }
 
@@ -115,27 +116,27 @@ impl<'a> Binder<'a> {
     fn enter_alias(
         &mut self,
         target: Reference<'a>,
-        alias: Vec<u8>,
-        number: usize,
+        alias: Proposal,
     ) -> Result<Name<'a>, AllocError>
         requires indexed { Indexed self.old }
         requires unnamed { name_of (bindings_in self.old) (pair_of target) ≡ None }
-        requires comes { Comes (bindings_in self.old) (pair_of target).1 alias.items number }
-        ensures { IfOk result (λ n. Enters self.old alias.items (pair_of target.entry) n self.new) }
+        requires comes { Comes (bindings_in self.old) (pair_of target).1 alias.name.items alias.number }
+        ensures { IfOk result (λ n. Enters self.old alias.name.items (pair_of target.entry) n self.new) }
     {
-        let start = self.pool.len();
-        let len = alias.len();
-        self.pool.extend_from_slice(alias.as_slice())?;
-        let part = Part { start, len };
+        let Proposal {
+            name: bytes,
+            number,
+        } = alias;
+        let part = Part {
+            start: self.pool.len(),
+            len: bytes.len(),
+        };
+        self.pool.extend_from_slice(bytes.as_slice())?;
         let name = Name::Alias(part);
-        self.aliases.insert(alias)?;
+        self.aliases.insert(bytes)?;
         self.lasts.insert(target.name, Last { part, number })?;
         self.targets.insert(target, name)?;
-        self.entries.push(Entry {
-            name,
-            from: target.from,
-            root: target.name,
-        })?;
+        self.entries.push(Entry { name, target })?;
         Ok(name)
     }
 
@@ -155,11 +156,10 @@ impl<'a> Binder<'a> {
             let root = self.enter_root(target)?;
             return Ok(Some(root));
         }
-        let found = self.free_alias(heap, target.name)?;
-        let Some((alias, number)) = found else {
+        let Some(alias) = self.free_alias(heap, target.name)? else {
             return Ok(None);
         };
-        let name = self.enter_alias(target, alias, number)?;
+        let name = self.enter_alias(target, alias)?;
         Ok(Some(name))
     }
 
@@ -171,7 +171,7 @@ impl<'a> Binder<'a> {
         if self.is_bound(name) {
             return Ok(());
         }
-        let _name = self.enter_root(Reference { from: own, name })?;
+        self.enter_root(Reference { from: own, name })?;
         Ok(())
     }
 }

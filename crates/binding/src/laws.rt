@@ -3,23 +3,17 @@ ghost use Rattle.binding.specs.Laws.{LowestTaken, NamesTell, NamesByNumber};
 
 // The name taken for a target is the lowest proposal that is free or its own, and none is taken only where proposals end:
 // whatever way names are proposed in, if number 0 is the root and all differ.
-pub fn lowest_taken() -> u8
+pub fn lowest_taken()
     ensures { LowestTaken }
-{
-    0
-}
+{}
 
 // Two references have one bound name exactly if module and root are equal, a declared name is bound to itself, and nothing
 // else is bound: whatever way names are proposed in.
-pub fn names_tell() -> u8
+pub fn names_tell()
     ensures { NamesTell }
-{
-    0
-}
+{}
 
 // The names with rising numbers are such a way.
-pub fn names_by_number() -> u8
+pub fn names_by_number()
     ensures { NamesByNumber }
-{
-    0
-}
+{}

@@ -3,7 +3,7 @@ ghost use Rattle.std.specs.Prelude.{◌≡◌};
 ghost use Rattle.std.specs.Option.{option_map};
 ghost use Rattle.binding.specs.Named.{name_held};
 
-use crate::name::{Entry, text_of};
+use crate::name::{Bindings, text_of};
 use crate::names::Names;
 use references::Reference;
 
@@ -12,23 +12,20 @@ impl<'a> Names<'a> {
     pub fn name_of<'s>(&'s self, reference: Reference<'a>) -> Option<&'s [u8]>
         ensures { option_map (λ x. x.now) result ≡ name_held self.now reference.entry }
     {
-        match self.renaming.get(&reference) {
-            Some(name) => Some(text_of(self.pool.as_slice(), *name)),
-            None => None,
+        let pool = self.pool.as_slice();
+        self.renaming
+            .get(&reference)
+            .map(|name| text_of(pool, *name))
+    }
+
+    // What the file binds.
+    pub fn bindings(&self) -> Bindings<'_, 'a>
+        ensures pool { result.pool.now ≡ self.now.pool.items }
+        ensures entries { result.entries.now ≡ self.now.entries.items }
+    {
+        Bindings {
+            pool: self.pool.as_slice(),
+            entries: self.entries.as_slice(),
         }
-    }
-
-    // The aliases, one behind another.
-    pub fn pool(&self) -> &[u8]
-        ensures { result.now ≡ self.now.pool.items }
-    {
-        self.pool.as_slice()
-    }
-
-    // The bindings, in the order in which they were made.
-    pub fn entries(&self) -> &[Entry<'a>]
-        ensures { result.now ≡ self.now.entries.items }
-    {
-        self.entries.as_slice()
     }
 }

@@ -2,7 +2,9 @@
 ghost use Rattle.std.specs.Prelude.{◌≡◌, take, drop};
 ghost use Rattle.binding.specs.Held.{text_of};
 
-// Where an alias stands in the pool.
+use references::Reference;
+
+// Where an alias stands in the pool. All aliases lie in one pool, so that a name is a slice of it or of the model.
 #[derive(Clone, Copy)]
 pub struct Part {
     pub start: usize,
@@ -22,12 +24,25 @@ pub(crate) struct Last {
     pub(crate) number: usize,
 }
 
+// A name that is proposed for a root, and its number among the proposals.
+#[derive(Drop)]
+pub(crate) struct Proposal {
+    pub(crate) name: Vec<u8>,
+    pub(crate) number: usize,
+}
+
 // A name, and the module and root attribute that it is bound to.
 #[derive(Clone, Copy)]
 pub struct Entry<'a> {
     pub name: Name<'a>,
-    pub from: &'a [u8],
-    pub root: &'a [u8],
+    pub target: Reference<'a>,
+}
+
+// The bindings of a file, in the order in which they were made, and the aliases, one behind another.
+#[derive(Clone, Copy)]
+pub struct Bindings<'s, 'a> {
+    pub pool: &'s [u8],
+    pub entries: &'s [Entry<'a>],
 }
 
 pub(crate) fn part_of(pool: &[u8], part: Part) -> &[u8]

@@ -16,10 +16,3 @@ pub struct Names<'a> {
     pub(crate) renaming: BTreeMap<Reference<'a>, Name<'a>>,
     ghost sorted: { IsOrdered reference_cmp renaming } by { IsStrictlySortedBy-prop reference_cmp (keys renaming) },
 }
-
-#[derive(Drop)]
-pub enum Bound<'a> {
-    Named(Names<'a>),
-    // all proposals for this reference are bound to others
-    Exhausted(Reference<'a>),
-}

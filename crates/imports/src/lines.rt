@@ -1,33 +1,30 @@
 //! Import lines, from the bindings as the code holds them.
 
 ghost use Rattle.std.specs.Prelude.{◌≡◌, ◌++◌, map, IfOk, vec_items, OnOk};
-ghost use Rattle.model.specs.Limits.{same_text_of};
+ghost use Rattle.references.specs.References.{pair_of};
 ghost use Rattle.binding.specs.Binding.{binding};
 ghost use Rattle.binding.specs.Held.{bindings_of};
 ghost use Rattle.imports.specs.Held.{Puts};
 ghost use Rattle.imports.specs.Lines.{import', import_lines_of, import_text, imported, start_text};
 
-use binding::{Entry, text_of};
+use binding::{Bindings, text_of};
 use paths::append_relative;
+use references::Reference;
 use std::alloc::{AllocError, Global};
 use std::collections::BTreeSet;
 use std::mem;
 
-/// `==`, with its answer as a Bool that the specs compute.
-fn same(a: &[u8], b: &[u8]) -> bool
-    ensures { result ≡ same_text_of a.now b.now }
-{
-    a == b
-}
+/// The module of what Python knows without an import.
+const BUILTINS: &[u8] = b"builtins";
 
-/// Whether a file of the module `own` has to import the root of the module `from` under this name.
-fn is_imported(own: &[u8], from: &[u8], root: &[u8], name: &[u8]) -> bool
-    ensures { result ≡ imported own.now (binding name.now (from.now, root.now)) }
+/// Whether a file of the module `own` has to import the target under this name.
+fn is_imported(own: &[u8], target: Reference<'_>, name: &[u8]) -> bool
+    ensures { result ≡ imported own.now (binding name.now (pair_of target.entry)) }
 {
-    if same(from, own) {
+    if target.from == own {
         return false;
     }
-    !(same(from, b"builtins") && same(name, root))
+    !(target.from == BUILTINS && name == target.name)
 }
 
 /// A line up to its names.
@@ -46,7 +43,7 @@ fn append_import(out: &mut Vec<u8>, root: &[u8], name: &[u8]) -> Result<(), Allo
     ensures { OnOk result (out.new.items ≡ out.old.items ++ import_text (import' root.now name.now)) }
 {
     out.extend_from_slice(root)?;
-    if !same(root, name) {
+    if root != name {
         out.extend_from_slice(b" as ")?;
         out.extend_from_slice(name)?;
     }
@@ -68,26 +65,25 @@ pub fn import_lines(
     heap: Global,
     own: &[u8],
     base: &[u8],
-    pool: &[u8],
-    entries: &[Entry<'_>],
+    bindings: Bindings<'_, '_>,
 ) -> Result<Vec<Vec<u8>>, AllocError>
-    ensures { IfOk result (λ v. map vec_items v.items ≡ import_lines_of own.now base.now (bindings_of pool.now entries.now)) }
+    ensures { IfOk result (λ v. map vec_items v.items ≡ import_lines_of own.now base.now (bindings_of bindings.entry.pool.now bindings.entry.entries.now)) }
 {
     let mut lines = BTreeSet::new(heap);
     let mut line = Vec::new(heap);
     // No entry of the own module is imported, so the first one that is begins a line.
     let mut from = own;
-    for e in entries {
-        let name = text_of(pool, e.name);
-        if is_imported(own, e.from, e.root, name) {
-            if same(from, e.from) {
+    for e in bindings.entries {
+        let name = text_of(bindings.pool, e.name);
+        if is_imported(own, e.target, name) {
+            if from == e.target.from {
                 line.extend_from_slice(b", ")?;
             } else {
-                let next = start_line(heap, base, e.from)?;
+                let next = start_line(heap, base, e.target.from)?;
                 put_line(&mut lines, mem::replace(&mut line, next))?;
-                from = e.from;
+                from = e.target.from;
             }
-            append_import(&mut line, e.root, name)?;
+            append_import(&mut line, e.target.name, name)?;
         }
     }
     put_line(&mut lines, line)?;

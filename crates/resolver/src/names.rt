@@ -2,7 +2,7 @@
 ghost use Rattle.resolver.specs.Resolves.{Resolves};
 
 use crate::fault::Fault;
-use binding::{Bound, Names, bind_names};
+use binding::{Fault as Unbound, Names, bind_names};
 use model::File;
 use references::{ascending, first_use, undeclared_use};
 use std::alloc::Global;
@@ -25,11 +25,12 @@ pub fn resolve<'a>(
         return Err(Fault::Undeclared(place));
     }
     let references = ascending(heap, uses)?;
-    match bind_names(heap, own, declared, references.as_slice())? {
-        Bound::Named(names) => Ok(names),
-        Bound::Exhausted(reference) => {
+    match bind_names(heap, own, declared, references.as_slice()) {
+        Ok(names) => Ok(names),
+        Err(Unbound::Exhausted(reference)) => {
             let place = first_use(uses, reference).unwrap_or(0);
             Err(Fault::Exhausted(place))
         }
+        Err(Unbound::Memory) => Err(Fault::Memory),
     }
 }

@@ -25,7 +25,7 @@ loop-r-preserved c =
     let r = get_or c.args.references.now c.loop-r.r-index blank in
     folds_more _ (map pair_of c.args.references.now) c.loop-r.r-index (pair_of blank) c.loop-r.binder c.bind.new.self c.loop-r.renaming c.insert.new.self r c.in-Some.name
     (omega (arith, length-map c.args.references.now pair_of, c.loop-r-test.true)) (get_or-map pair_of c.args.references.now c.loop-r.r-index blank) c.loop-r.invariant
-    (binds_some c.loop-r.binder c.bind.new.self _ _ c.in_ok-bound.bound c.in-Some.name (ap (λ w. (r.from.now, w)) c.split_root.ensures.root) c.in-Some.is c.in_ok-bound.ensures)
+    (binds_some c.loop-r.binder c.bind.new.self _ _ c.in_ok-name.field-0 c.in-Some.name (ap (λ w. (r.from.now, w)) c.split_root.ensures.root) c.in-Some.is c.in_ok-name.ensures)
     c.in_ok-insert.ensures.updates c.insert.ensures.ordered
 
 pub returns-in_default : goal.returns-in_default
@@ -33,7 +33,7 @@ returns-in_default c =
     let r = get_or c.args.references.now c.loop-r.r-index blank in
     folds_stop _ (map pair_of c.args.references.now) c.loop-r.r-index (pair_of blank) c.loop-r.binder c.loop-r.renaming r
     (omega (arith, length-map c.args.references.now pair_of, c.loop-r-test.true)) (get_or-map pair_of c.args.references.now c.loop-r.r-index blank) c.loop-r.invariant
-    (binds_none c.loop-r.binder c.bind.new.self _ _ c.in_ok-bound.bound (ap (λ w. (r.from.now, w)) c.split_root.ensures.root) c.in_default.is c.in_ok-bound.ensures)
+    (binds_none c.loop-r.binder c.bind.new.self _ _ c.in_ok-name.field-0 (ap (λ w. (r.from.now, w)) c.split_root.ensures.root) c.in_default.is c.in_ok-name.ensures)
 
 pub returns : goal.returns
 returns c =

@@ -17,18 +17,18 @@ returns-then-not-is_bound c =
     bound_entered s c.enter_root.new.self t c.in_ok-root.root t.1 c.requires none
     (taken-root (bindings_in s) t c.requires.lawful none c.if-not-is_bound.ensures) c.in_ok-root.ensures
 
-pub returns-in_default-found : goal.returns-in_default-found
-returns-in_default-found c =
+pub returns-in_default-2 : goal.returns-in_default-2
+returns-in_default-2 c =
     let s = c.args.self.now in
     let t = pair_of c.args.target in
     let none = none_shown (pool_of s) (name_of (bindings_in s) t) c.in_default.ensures in
     step-none (bindings_in s) t c.requires.lawful
-    (taken_alias (bindings_in s) t c.requires.lawful none c.if-not-is_bound.ensures ∙ ap (λ k. free_from k (bindings_in s) (next_name t.1)) (as_many s) ∙ subst (FreeAlias (bindings_in s) t.1 (length (vec_items s.entries))) c.in_default-found.is c.in_ok-found.ensures)
+    (taken_alias (bindings_in s) t c.requires.lawful none c.if-not-is_bound.ensures ∙ ap (λ k. free_from k (bindings_in s) (next_name t.1)) (as_many s) ∙ subst (FreeAlias (bindings_in s) t.1 (length (vec_items s.entries))) c.in_default-2.is c.in_ok-alias.ensures)
 
 pub returns : goal.returns
 returns c =
     let s = c.args.self.now in
     let t = pair_of c.args.target in
     let none = none_shown (pool_of s) (name_of (bindings_in s) t) c.in_default.ensures in
-    bound_entered s c.enter_alias.new.self t c.in_ok-name.name (vec_items c.in-Some-found.alias) c.requires none
-    (taken_alias (bindings_in s) t c.requires.lawful none c.if-not-is_bound.ensures ∙ ap (λ k. free_from k (bindings_in s) (next_name t.1)) (as_many s) ∙ (subst (FreeAlias (bindings_in s) t.1 (length (vec_items s.entries))) c.in-Some-found.is c.in_ok-found.ensures).0) c.in_ok-name.ensures
+    bound_entered s c.enter_alias.new.self t c.in_ok-name.name (vec_items c.in-Some-2.alias.name) c.requires none
+    (taken_alias (bindings_in s) t c.requires.lawful none c.if-not-is_bound.ensures ∙ ap (λ k. free_from k (bindings_in s) (next_name t.1)) (as_many s) ∙ (subst (FreeAlias (bindings_in s) t.1 (length (vec_items s.entries))) c.in-Some-2.is c.in_ok-alias.ensures).0) c.in_ok-name.ensures

@@ -14,6 +14,6 @@ enter_root-requires c =
 
 pub returns : goal.returns
 returns c = record {
-  more = λ ds e. c.in_ok-_name.ensures.bindings ∙ declares-new c.args.own.now c.args.name.now (bindings_in c.args.self.now) c.if-is_bound.ensures ds e;
-  indexed = c.in_ok-_name.ensures.indexed;
+  more = λ ds e. c.in_ok-enter_root.ensures.bindings ∙ declares-new c.args.own.now c.args.name.now (bindings_in c.args.self.now) c.if-is_bound.ensures ds e;
+  indexed = c.in_ok-enter_root.ensures.indexed;
 }

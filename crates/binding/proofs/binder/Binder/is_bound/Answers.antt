@@ -7,13 +7,13 @@ use Rattle.binding.proofs.binder.Binder.is_bound.Goals as goal
 
 pub returns-then-contains : goal.returns-then-contains
 returns-then-contains c =
-    bound_as_name c.args.self.now c.requires c.args.name (spelled c.args.self.now.pool c.args.name.now (search rules)) (spelled-bytes c.args.self.now.pool c.args.name.now (search rules))
+    c.if-contains.true ∙ bound_as_name c.args.self.now c.requires c.args.name (spelled c.args.self.now.pool c.args.name.now (search rules)) (spelled-bytes c.args.self.now.pool c.args.name.now (search rules))
     c.contains.result c.contains.ensures c.if-contains.true
 
-pub returns : goal.returns
-returns c =
+pub returns-else-contains : goal.returns-else-contains
+returns-else-contains c =
     let v = spelled c.args.self.now.pool c.args.name.now (search rules) in
     let e = spelled-bytes c.args.self.now.pool c.args.name.now (search rules) in
     bound_as_alias c.args.self.now c.requires c.args.name v e
-    c.contains.result c.contains-2.result c.contains.ensures c.if-contains.false
-    (c.contains-2.ensures ∙ ap (λ bs. contains_by (λ k. slice_cmp nat_cmp bs (vec_items k)) c.args.self.now.aliases) (sym e))
+    c.contains.result c.contains-else-contains.result c.contains.ensures c.if-contains.false
+    (c.contains-else-contains.ensures ∙ ap (λ bs. contains_by (λ k. slice_cmp nat_cmp bs (vec_items k)) c.args.self.now.aliases) (sym e))
