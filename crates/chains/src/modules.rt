@@ -4,13 +4,9 @@ ghost use Rattle.std.specs.Prelude.{◌≡◌, ◌++◌, IfOk, OnOk};
 ghost use Rattle.model.specs.Read.{deepest_allowed};
 ghost use Rattle.chains.specs.Chains.{own_in, package_in};
 
-use model::File;
-use model::maps::MODULE_MODULES;
+use model::{DEEPEST, File, ModuleField};
 use std::alloc::{AllocError, Global};
 use walk::Header;
-
-// How deep a tree may go, and so how many modules can stand in a chain.
-const DEEPEST: u8 = 64;
 
 /// A model and its files in short.
 #[derive(Clone, Copy)]
@@ -35,7 +31,8 @@ impl<'a> Loaded<'a> {
             self.append_module(out, holder, depth - 1)?;
             out.push(b'.')?;
         }
-        out.extend_from_slice(Header::at(self.model, file.place).name)?;
+        let header: Header<ModuleField> = Header::at(self.model, file.place);
+        out.extend_from_slice(header.name)?;
         Ok(())
     }
 
@@ -53,6 +50,6 @@ impl<'a> Loaded<'a> {
 pub fn is_package(model: &[u8], file: File) -> bool
     ensures { result ≡ package_in model.now file }
 {
-    let map = Header::at(model, file.place).map;
-    file.holder.is_none() || map / MODULE_MODULES % 2 == 1
+    let header: Header<ModuleField> = Header::at(model, file.place);
+    file.holder.is_none() || header.fields.has(ModuleField::Modules)
 }

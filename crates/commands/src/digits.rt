@@ -4,17 +4,18 @@ ghost use Rattle.std.specs.Option.{option_map};
 ghost use Rattle.commands.specs.Hex.{hex_bytes};
 
 use hex::FromHexError;
-use std::alloc::{AllocError, Global};
+use session::Fault;
+use std::alloc::Global;
 
 // The bytes that the text writes; none where it is no row of pairs of digits.
-pub(crate) fn unhex(heap: Global, text: &[u8]) -> Result<Option<Vec<u8>>, AllocError>
+pub(crate) fn unhex(heap: Global, text: &[u8]) -> Result<Option<Vec<u8>>, Fault>
     ensures { IfOk result (λ o. option_map vec_items o ≡ hex_bytes text.now) }
 {
     match hex::decode(heap, text) {
         Ok(bytes) => Ok(Some(bytes)),
         // of the library's errors one is want of memory, and the others say that these are no pairs of digits
         Err(e) => match e {
-            FromHexError::OutOfMemory => Err(AllocError),
+            FromHexError::OutOfMemory => Err(Fault::Memory),
             _ => Ok(None),
         },
     }

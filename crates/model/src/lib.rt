@@ -8,7 +8,6 @@ mod fields;
 mod files;
 mod findings;
 mod laws;
-pub mod maps;
 mod modules;
 mod places;
 mod read;

@@ -3,11 +3,10 @@ ghost use Rattle.std.specs.Prelude.{IfOk, OnOk};
 ghost use Rattle.model.specs.Read.{deepest_allowed};
 ghost use Rattle.walk.specs.Collects.{Collects, DeclaresEach};
 
-use crate::cursor::{Cursor, stands};
+use crate::cursor::Cursor;
 use crate::times::times;
 use crate::walker::Walker;
-use model::maps::{MODULE_ATTRIBUTES, MODULE_CLASSES, MODULE_FUNCTIONS};
-use model::{Declared, File, Use};
+use model::{DEEPEST, Declared, Fields, File, ModuleField, Use};
 use std::alloc::{AllocError, Global};
 
 // The declared names and the references of a file, each in the order of their places.
@@ -16,9 +15,6 @@ pub struct Collected<'a> {
     pub declared: Vec<Declared<'a>>,
     pub uses: Vec<Use<'a>>,
 }
-
-// How deep a tree may go.
-const DEEPEST: u8 = 64;
 
 // A walk, and what was declared on it.
 #[derive(Drop)]
@@ -51,7 +47,7 @@ impl<'a> Collector<'a> {
 pub fn collect<'a>(heap: Global, model: &'a [u8], file: File) -> Result<Collected<'a>, AllocError>
     ensures { IfOk result (λ v. Collects model.now file v) }
 {
-    let map = Cursor::at(model, file.place).number();
+    let fields: Fields<ModuleField> = Cursor::at(model, file.place).fields();
     let mut all = Collector {
         walker: Walker {
             at: Cursor::at(model, file.own),
@@ -59,9 +55,9 @@ pub fn collect<'a>(heap: Global, model: &'a [u8], file: File) -> Result<Collecte
         },
         declared: Vec::new(heap),
     };
-    all.own(stands(map, MODULE_CLASSES), Walker::walk_class)?;
-    all.own(stands(map, MODULE_FUNCTIONS), Walker::walk_function)?;
-    all.own(stands(map, MODULE_ATTRIBUTES), Walker::walk_attribute)?;
+    all.own(fields.has(ModuleField::Classes), Walker::walk_class)?;
+    all.own(fields.has(ModuleField::Functions), Walker::walk_function)?;
+    all.own(fields.has(ModuleField::Attributes), Walker::walk_attribute)?;
     Ok(Collected {
         declared: all.declared,
         uses: all.walker.uses,

@@ -1,20 +1,13 @@
 // A cursor over packed bytes that are known to be laid out, so that every step has an answer: past the end there are
 // zeros. It keeps only what is left, and the model's length, by which places are told.
-ghost use Rattle.std.specs.Prelude.{◌≡◌, ◌<◌, drop, length};
-ghost use Rattle.model.specs.Read.{place as place_of, bit as bit_of};
+ghost use Rattle.std.specs.Prelude.{◌≡◌, drop, length};
+ghost use Rattle.model.specs.Maps.{map_of};
+ghost use Rattle.model.specs.Read.{place as place_of};
 ghost use Rattle.model.specs.Steps.{head_of};
 ghost use Rattle.walk.specs.Total.{byte as byte_at, number as number_at, text as text_at, count as count_at, head as head_at};
 ghost use Rattle.walk.specs.Puts.{skip as skip_at, skip_parts as skip_parts_at, skips as skips_at, Bare};
 
-use model::Expression;
-
-// Whether the bit of this value stands in a map.
-pub(crate) fn stands(map: u16, bit: u16) -> bool
-    requires { 0 < bit }
-    ensures { result ≡ bit_of map bit }
-{
-    map / bit % 2 == 1
-}
+use model::{Expression, Field, Fields};
 
 // The reader's cursor in `model` has the same tags, but its steps fail, and say where. A cursor for both would make these
 // steps fail as well, or be a trait over the error: neither is plainer.
@@ -65,6 +58,15 @@ impl<'a> Cursor<'a> {
         let high = self.byte();
         let low = self.byte();
         u16::from(high) * 256 + u16::from(low)
+    }
+
+    // A record's map, whatever its bits.
+    pub fn fields<F: Field>(&mut self) -> Fields<F>
+        ensures is { map_of result ≡ (number_at self.old.rest.now).0 }
+        ensures rest { self.new.rest.now ≡ (number_at self.old.rest.now).1 }
+        ensures end { self.new.end ≡ self.old.end }
+    {
+        Fields::of(self.number())
     }
 
     // A text: its length, and as many bytes, or all that are left.

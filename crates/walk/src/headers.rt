@@ -1,20 +1,22 @@
 // How a record begins, by which a module is known without a walk over what it holds.
 ghost use Rattle.std.specs.Prelude.{◌≡◌, drop};
+ghost use Rattle.model.specs.Maps.{map_of};
 ghost use Rattle.walk.specs.Total.{number as number_at, text as text_at};
 
 use crate::cursor::Cursor;
+use model::{Field, Fields};
 
-// A record's map and its name.
+// Which fields a record has, and its name.
 #[derive(Clone, Copy)]
-pub struct Header<'a> {
-    pub map: u16,
+pub struct Header<'a, F> {
+    pub fields: Fields<F>,
     pub name: &'a [u8],
 }
 
-impl<'a> Header<'a> {
+impl<'a, F: Field> Header<'a, F> {
     // Of the record at this place.
     pub fn at(model: &'a [u8], place: usize) -> Self
-        ensures map { result.map ≡ (number_at (drop place model.now)).0 }
+        ensures fields { map_of result.fields ≡ (number_at (drop place model.now)).0 }
         ensures name { result.name.now ≡ (text_at (number_at (drop place model.now)).1).0 }
     {
         let mut at = Cursor::at(model, place);
@@ -24,14 +26,14 @@ impl<'a> Header<'a> {
 
 impl<'a> Cursor<'a> {
     // Of the next record.
-    pub fn header(&mut self) -> Header<'a>
-        ensures map { result.map ≡ (number_at self.old.rest.now).0 }
+    pub fn header<F: Field>(&mut self) -> Header<'a, F>
+        ensures fields { map_of result.fields ≡ (number_at self.old.rest.now).0 }
         ensures name { result.name.now ≡ (text_at (number_at self.old.rest.now).1).0 }
         ensures rest { self.new.rest.now ≡ (text_at (number_at self.old.rest.now).1).1 }
         ensures end { self.new.end ≡ self.old.end }
     {
-        let map = self.number();
+        let fields = self.fields();
         let name = self.text();
-        Header { map, name }
+        Header { fields, name }
     }
 }

@@ -1,5 +1,6 @@
 // A walk over what a file declares that gathers the references in it, in the order of their places.
 ghost use Rattle.std.specs.Prelude.{IfOk, OnOk};
+ghost use Rattle.model.specs.Maps.{map_of};
 ghost use Rattle.model.specs.Steps.{head_of};
 ghost use Rattle.model.specs.Tree.{end as no_expr, item as add_expr};
 ghost use Rattle.model.specs.Uses.{class_declared};
@@ -7,15 +8,10 @@ ghost use Rattle.walk.specs.Total.{expr as expr_at, parts as parts_at, rows as r
 ghost use Rattle.walk.specs.Puts.{expr_put, exprs_put, each_put, any_put, value_put, annotation_put, pair_put, attribute_put, argument_put, star_put, function_put, class_put, classes_put, function_declared, attribute_declared};
 ghost use Rattle.walk.specs.Walks.{Walks, Tells, Noted};
 
-use crate::cursor::{Cursor, stands};
+use crate::cursor::Cursor;
 use crate::headers::Header;
 use crate::times::times;
-use model::maps::{
-    ANNOTATION, CLASS_ATTRIBUTES, CLASS_BASES, CLASS_DECORATORS, CLASS_INNER, CLASS_METHODS,
-    FUNCTION_DECORATORS, FUNCTION_KEYWORD, FUNCTION_KWARG, FUNCTION_POSITIONAL, FUNCTION_REGULAR,
-    FUNCTION_RETURNS, FUNCTION_VARARG, VALUE,
-};
-use model::{Declared, Expression, Reference, Use};
+use model::{ClassField, Declared, Expression, Fields, FunctionField, Reference, Use, ValueField};
 use std::alloc::AllocError;
 
 #[derive(Drop)]
@@ -120,18 +116,18 @@ impl<'a> Walker<'a> {
     }
 
     // The value and the annotation of an attribute, or the default and the annotation of an argument.
-    fn walk_pair(&mut self, map: u16, depth: u8) -> Result<(), AllocError>
-        ensures { OnOk result (Walks pair_put (pair_at self.old.at.end depth map) self.old self.new) }
+    fn walk_pair(&mut self, fields: Fields<ValueField>, depth: u8) -> Result<(), AllocError>
+        ensures { OnOk result (Walks pair_put (pair_at self.old.at.end depth (map_of fields)) self.old self.new) }
     {
-        self.walk_value(stands(map, VALUE), depth)?;
-        self.walk_annotation(stands(map, ANNOTATION), depth)
+        self.walk_value(fields.has(ValueField::Value), depth)?;
+        self.walk_annotation(fields.has(ValueField::Annotation), depth)
     }
 
     fn walk_argument(&mut self, depth: u8) -> Result<(), AllocError>
         ensures { OnOk result (Walks argument_put (argument_at self.old.at.end depth) self.old self.new) }
     {
-        let map = self.at.header().map;
-        self.walk_pair(map, depth)
+        let fields = self.at.header().fields;
+        self.walk_pair(fields, depth)
     }
 
     fn walk_arguments(&mut self, stands: bool, depth: u8) -> Result<(), AllocError>
@@ -148,8 +144,8 @@ impl<'a> Walker<'a> {
         if !there {
             return Ok(());
         }
-        let map = self.at.header().map;
-        self.walk_annotation(stands(map, ANNOTATION), depth)
+        let fields = self.at.header().fields;
+        self.walk_annotation(fields.has(ValueField::Annotation), depth)
     }
 
     // A function or a method.
@@ -157,14 +153,14 @@ impl<'a> Walker<'a> {
         ensures { IfOk result (λ v. Tells function_put function_declared (function_at self.old.at.end depth) self.old self.new v) }
     {
         let place = self.at.place();
-        let Header { map, name } = self.at.header();
-        self.walk_exprs(stands(map, FUNCTION_DECORATORS), depth)?;
-        self.walk_arguments(stands(map, FUNCTION_POSITIONAL), depth)?;
-        self.walk_arguments(stands(map, FUNCTION_REGULAR), depth)?;
-        self.walk_star(stands(map, FUNCTION_VARARG), depth)?;
-        self.walk_arguments(stands(map, FUNCTION_KEYWORD), depth)?;
-        self.walk_star(stands(map, FUNCTION_KWARG), depth)?;
-        self.walk_annotation(stands(map, FUNCTION_RETURNS), depth)?;
+        let Header { fields, name } = self.at.header();
+        self.walk_exprs(fields.has(FunctionField::Decorators), depth)?;
+        self.walk_arguments(fields.has(FunctionField::Positional), depth)?;
+        self.walk_arguments(fields.has(FunctionField::Regular), depth)?;
+        self.walk_star(fields.has(FunctionField::Vararg), depth)?;
+        self.walk_arguments(fields.has(FunctionField::Keyword), depth)?;
+        self.walk_star(fields.has(FunctionField::Kwarg), depth)?;
+        self.walk_annotation(fields.has(FunctionField::Returns), depth)?;
         Ok(Declared { place, name })
     }
 
@@ -173,8 +169,8 @@ impl<'a> Walker<'a> {
         ensures { IfOk result (λ v. Tells attribute_put attribute_declared (attribute_at self.old.at.end depth) self.old self.new v) }
     {
         let place = self.at.place();
-        let Header { map, name } = self.at.header();
-        self.walk_pair(map, depth)?;
+        let Header { fields, name } = self.at.header();
+        self.walk_pair(fields, depth)?;
         Ok(Declared { place, name })
     }
 
@@ -216,12 +212,12 @@ impl<'a> Walker<'a> {
         ensures { IfOk result (λ v. Tells class_put class_declared (class_over_at self.old.at.end depth (class_at self.old.at.end depth)) self.old self.new v) }
     {
         let place = self.at.place();
-        let Header { map, name } = self.at.header();
-        self.walk_exprs(stands(map, CLASS_BASES), depth)?;
-        self.walk_methods(stands(map, CLASS_METHODS), depth)?;
-        self.walk_attributes(stands(map, CLASS_ATTRIBUTES), depth)?;
-        self.walk_exprs(stands(map, CLASS_DECORATORS), depth)?;
-        self.walk_classes(stands(map, CLASS_INNER), depth)?;
+        let Header { fields, name } = self.at.header();
+        self.walk_exprs(fields.has(ClassField::Bases), depth)?;
+        self.walk_methods(fields.has(ClassField::Methods), depth)?;
+        self.walk_attributes(fields.has(ClassField::Attributes), depth)?;
+        self.walk_exprs(fields.has(ClassField::Decorators), depth)?;
+        self.walk_classes(fields.has(ClassField::Inner), depth)?;
         Ok(Declared { place, name })
     }
 
