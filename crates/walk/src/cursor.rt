@@ -13,8 +13,8 @@ use model::{Expression, Field, Fields};
 // steps fail as well, or be a trait over the error: neither is plainer.
 #[derive(Clone, Copy)]
 pub struct Cursor<'a> {
-    pub(crate) rest: &'a [u8],
-    pub(crate) end: usize,
+    pub rest: &'a [u8],
+    pub end: usize,
 }
 
 impl<'a> Cursor<'a> {
