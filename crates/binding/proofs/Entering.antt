@@ -1,16 +1,17 @@
 -- One binding more, in the list of bindings and in the indexes.
-use Rattle.std.proofs.Common.{◌≡◌, ℕ, zero, suc, ◌+◌, ◌≤◌, Bool, true, false, cond, ◌||◌, eqb, List, [], ◌∷◌, ◌++◌, length, take, drop, is_some, IfSome, Some, None, vec_items, Option, Vec, sym, refl, ap, ◌∙◌, subst, arith, length-append, Bor}
+use Rattle.std.proofs.Common.{◌≡◌, ℕ, ◌+◌, ◌≤◌, Bool, true, false, cond, ◌||◌, eqb, List, [], ◌∷◌, ◌++◌, length, take, drop, is_some, IfSome, Some, None, vec_items, Option, Vec, sym, refl, ap, ◌∙◌, subst, arith, length-append, Bor}
 use Rattle.std.specs.List.{AllByRecursion}
 use Rattle.std.specs.declared.alloc.Global.{Global}
 use Rattle.std.proofs.lemmas.Bool.{or_right, eqb-true, eqb-false}
 use Rattle.naming.specs.Next.{proposal}
-use Rattle.binding.specs.declared.name.Last.{Last}
+use Rattle.binding.specs.declared.name.Part.{Part}
+use Rattle.binding.specs.declared.name.Proposal.{Proposal}
 use Rattle.std.specs.Ordering.{eq_by_cmp}
 use Rattle.std.specs.Cmp.{eq_by_cmp_equiv}
 use Rattle.std.specs.BTreeSet.{BTreeSet}
 use Rattle.std.specs.BTreeMap as tree
 use Rattle.std.specs.BTreeSet as bag
-use Rattle.std.proofs.lemmas.List.{map-append}
+use Rattle.std.proofs.lemmas.List.{drop-append-le, drop_at, length-drop, map-append, take-append-le, take_all}
 use Rattle.model.specs.Tree.{Text}
 use Rattle.model.specs.Limits.{same_text_of, same_reference}
 use Rattle.model.specs.declared.uses.Reference.{Reference as ReferenceOf}
@@ -32,10 +33,8 @@ use Rattle.binding.proofs.Binds.{or_else, find-more, name-more}
 -- ---- the pool grows at its end
 
 cut-grown : (start len : ℕ) (pool more : List ℕ) → start + len ≤ length pool → take len (drop start (pool ++ more)) ≡ take len (drop start pool)
-cut-grown start len [] more h = let a : start ≡ 0 = omega arith in let b : len ≡ 0 = omega arith in rw (a, b) refl
-cut-grown zero zero (x ∷ pool) more h = refl
-cut-grown zero (suc len) (x ∷ pool) more h = ap (λ l. x ∷ l) (cut-grown 0 len pool more (omega arith))
-cut-grown (suc start) len (x ∷ pool) more h = cut-grown start len pool more (omega arith)
+cut-grown start len pool more h =
+    ap (take len) (drop-append-le start pool more (omega arith)) ∙ take-append-le len (drop start pool) more (omega (arith, length-drop start pool))
 
 pub pool-grows : (pool more : List ℕ) → Grows pool (pool ++ more)
 pool-grows pool more (Model s) h = (refl, tt)
@@ -111,17 +110,17 @@ module _ (s s' : Binder) (t : ReferenceOf) (n : Name) (w : Text) (grows : Grows 
           subst (λ o. Shows (pool_of s') (tree.get reference_cmp s.targets q) o) (sym (or_none (name_of (bindings_in s) (pair_of q))))
           (shows-grown (pool_of s) (pool_of s') grows (tree.get reference_cmp s.targets q) (name_of (bindings_in s) (pair_of q)) (x.finds q))
 
-  starts_kept : (b : List Binding) (e : Binding) (root : Text) (o : Option Last) → IfSome o (Started (pool_of s) b root) → IfSome o (Started (pool_of s') (b ++ e ∷ []) root)
+  starts_kept : (b : List Binding) (e : Binding) (root : Text) (o : Option (Proposal Part)) → IfSome o (Started (pool_of s) b root) → IfSome o (Started (pool_of s') (b ++ e ∷ []) root)
   starts_kept b e root None h = tt
   starts_kept b e root (Some l) h = record {
-    reached = record { is = h.reached.is ∙ ap Some (sym (grows (Alias l.part) h.lies).0); upto = λ i le. bounded_kept b e (proposal root i) (h.reached.upto i le) };
-    lies = (grows (Alias l.part) h.lies).1;
+    reached = record { is = h.reached.is ∙ ap Some (sym (grows (Alias l.name) h.lies).0); upto = λ i le. bounded_kept b e (proposal root i) (h.reached.upto i le) };
+    lies = (grows (Alias l.name) h.lies).1;
   }
 
   pub enters : vec_items s'.entries ≡ vec_items s.entries ++ record { name = n; target = t } ∷ []
       → tree.Updates reference_cmp s.targets s'.targets t (Some n)
       → tree.IsOrdered reference_cmp s'.targets → bag.IsOrdered text_cmp s'.names → bag.IsOrdered alias_cmp s'.aliases → tree.IsOrdered text_cmp s'.lasts
-      → ((q : Bor (List ℕ)) → ((o : Option Last) → IfSome o (Started (pool_of s) (bindings_in s) q.now) → IfSome o (Started (pool_of s') (bindings_in s ++ binding w (pair_of t) ∷ []) q.now)) → IfSome (tree.get text_cmp s'.lasts q) (Started (pool_of s') (bindings_in s ++ binding w (pair_of t) ∷ []) q.now))
+      → ((q : Bor (List ℕ)) → ((o : Option (Proposal Part)) → IfSome o (Started (pool_of s) (bindings_in s) q.now) → IfSome o (Started (pool_of s') (bindings_in s ++ binding w (pair_of t) ∷ []) q.now)) → IfSome (tree.get text_cmp s'.lasts q) (Started (pool_of s') (bindings_in s ++ binding w (pair_of t) ∷ []) q.now))
       → ((q : Bor (List ℕ)) (v : Vec ℕ Global) → vec_items v ≡ q.now
       → (bag.contains text_cmp s'.names q || bag.contains alias_cmp s'.aliases v) ≡ (same_text_of q.now w || (bag.contains text_cmp s.names q || bag.contains alias_cmp s.aliases v)))
       → Enters s w (pair_of t) n s'
@@ -152,16 +151,8 @@ module _ (s s' : Binder) (t : ReferenceOf) (n : Name) (w : Text) (grows : Grows 
 pub alias_grows : (pool alias after : List ℕ) → after ≡ pool ++ alias → Grows pool after
 alias_grows pool alias after e = subst (Grows pool) (sym e) (pool-grows pool alias)
 
-whole : (xs : List ℕ) → take (length xs) xs ≡ xs
-whole [] = refl
-whole (x ∷ xs) = ap (λ l. x ∷ l) (whole xs)
-
-behind-all : (pool alias : List ℕ) → drop (length pool) (pool ++ alias) ≡ alias
-behind-all [] alias = refl
-behind-all (x ∷ pool) alias = behind-all pool alias
-
 pub alias_is : (pool alias after : List ℕ) (start len : ℕ) → after ≡ pool ++ alias → start ≡ length pool → len ≡ length alias → take len (drop start after) ≡ alias
-alias_is pool alias after start len e a b = rw (e, a, b) (ap (take (length alias)) (behind-all pool alias) ∙ whole alias)
+alias_is pool alias after start len e a b = rw (e, a, b) (ap (take (length alias)) (drop_at pool alias (length pool) refl) ∙ take_all (length alias) alias (omega arith))
 
 pub alias_lies : (pool alias after : List ℕ) (start len : ℕ) → after ≡ pool ++ alias → start ≡ length pool → len ≡ length alias → start + len ≤ length after
 alias_lies pool alias after start len e a b = rw e (omega (arith, length-append pool alias))
@@ -171,11 +162,11 @@ alias_lies pool alias after start len e a b = rw e (omega (arith, length-append 
 find_new_some : (b : List Binding) (w : Text) (t : Target) → is_some (find (b ++ binding w t ∷ []) w) ≡ true
 find_new_some b w t = find_more_some b w t w ∙ ap (λ c. c || is_some (find b w)) (text_itself w)
 
-pub last_put : (before pool : List ℕ) (b : List Binding) (w : Text) (t : Target) (lasts lasts' : BTreeMap (Bor (List ℕ)) Last) (k : Bor (List ℕ)) (l : Last)
+pub last_put : (before pool : List ℕ) (b : List Binding) (w : Text) (t : Target) (lasts lasts' : BTreeMap (Bor (List ℕ)) (Proposal Part)) (k : Bor (List ℕ)) (l : Proposal Part)
     → tree.Updates text_cmp lasts lasts' k (Some l)
-    → text_of pool (Alias l.part) ≡ w → Within (length pool) (Alias l.part) → Comes b k.now w l.number
+    → text_of pool (Alias l.name) ≡ w → Within (length pool) (Alias l.name) → Comes b k.now w l.number
     → ((q : Bor (List ℕ)) → IfSome (tree.get text_cmp lasts q) (Started before b q.now))
-    → (q : Bor (List ℕ)) → ((o : Option Last) → IfSome o (Started before b q.now) → IfSome o (Started pool (b ++ binding w t ∷ []) q.now))
+    → (q : Bor (List ℕ)) → ((o : Option (Proposal Part)) → IfSome o (Started before b q.now) → IfSome o (Started pool (b ++ binding w t ∷ []) q.now))
     → IfSome (tree.get text_cmp lasts' q) (Started pool (b ++ binding w t ∷ []) q.now)
 last_put before pool b w t lasts lasts' k l put is lies comes old q kept =
     subst (λ x. IfSome x (Started pool (b ++ binding w t ∷ []) q.now)) (sym (put.0 q ∙ ap (λ c. cond c (Some l) (tree.get text_cmp lasts q)) ((eq_by_cmp_equiv by_bytes).symm k q ∙ text_ties q.now k.now)))

@@ -16,7 +16,7 @@ use Rattle.references.specs.References.{pair_of}
 use Rattle.references.specs.Kept.{text_cmp, reference_cmp}
 use Rattle.binding.specs.declared.name.Name.{Name}
 use Rattle.binding.specs.declared.name.Name.TheVariants.{Model, Alias}
-use Rattle.binding.specs.declared.name.Last.{Last}
+use Rattle.binding.specs.declared.name.Part.{Part}
 use Rattle.binding.specs.declared.name.Proposal.{Proposal}
 use Rattle.binding.specs.declared.binder.Binder.{Binder}
 use Rattle.binding.specs.Binding.{Binding, binding, Target, by_number, find, name_of, chosen, step, declared_by}
@@ -64,9 +64,9 @@ pub record Comes (b : List Binding) (root w : Text) (n : ℕ) : Type 0 where
   pub below : (i : ℕ) → i < n → Bounded b (proposal root i)
 
 -- where the search goes on for a root
-pub record Started (pool : List ℕ) (b : List Binding) (root : Text) (l : Last) : Type 0 where
-  pub reached : Reached b root (text_of pool (Alias l.part)) l.number
-  pub lies : Within (length pool) (Alias l.part)
+pub record Started (pool : List ℕ) (b : List Binding) (root : Text) (l : Proposal Part) : Type 0 where
+  pub reached : Reached b root (text_of pool (Alias l.name)) l.number
+  pub lies : Within (length pool) (Alias l.name)
 
 pub record Indexed (s : Binder) : Type 0 where
   pub within : AllByRecursion (λ e. Within (length (pool_of s)) e.name) (vec_items s.entries)
@@ -110,7 +110,7 @@ free_from zero b o = None
 free_from (suc k) b o = chosen o (λ w. not (is_some (find b w))) (free_from k b (following o))
 
 -- of n names from the next one on
-abbrev pub FreeAlias : List Binding → Text → ℕ → Option Proposal → Type 0
+abbrev pub FreeAlias : List Binding → Text → ℕ → Option (Proposal (Vec ℕ Global)) → Type 0
 FreeAlias b root n None = free_from n b (next_name root) ≡ None
 FreeAlias b root n (Some p) = (free_from n b (next_name root) ≡ Some (vec_items p.name)) × Comes b root (vec_items p.name) p.number
 

@@ -4,7 +4,7 @@ ghost use Rattle.references.specs.References.{pair_of};
 ghost use Rattle.binding.specs.Binding.{find, name_of};
 ghost use Rattle.binding.specs.Sound.{Indexed, Sound, Enters, Binds, Shows, OnlyDeclared, DeclaresOne, Reached, Comes, FreeAlias, pool_of, bindings_in};
 
-use crate::name::{Entry, Last, Name, Part, Proposal, part_of};
+use crate::name::{Entry, Name, Part, Proposal, part_of};
 use naming::next_name;
 use references::Reference;
 use std::alloc::{AllocError, Global};
@@ -21,8 +21,8 @@ pub(crate) struct Binder<'a> {
     // the bound names that are parts of the model, and those that are aliases
     names: BTreeSet<&'a [u8]>,
     aliases: BTreeSet<Vec<u8>>,
-    // where the search goes on for a root that has an alias: all proposals up to that one are bound
-    lasts: BTreeMap<&'a [u8], Last>,
+    // the last alias that a root has got, where the search goes on: all proposals up to that one are bound
+    lasts: BTreeMap<&'a [u8], Proposal<Part>>,
 }
 
 impl<'a> Binder<'a> {
@@ -56,14 +56,14 @@ impl<'a> Binder<'a> {
     }
 
     // A proposal for the root, which is bound, up to which all are bound, and its number.
-    fn start(&self, heap: Global, root: &[u8]) -> Result<Proposal, AllocError>
+    fn start(&self, heap: Global, root: &[u8]) -> Result<Proposal<Vec<u8>>, AllocError>
         requires indexed { Indexed self.now }
         requires held { is_some (find (bindings_in self.now) root.now) ≡ true }
         ensures { IfOk result (λ p. Reached (bindings_in self.now) root.now p.name.items p.number) }
     {
         match self.lasts.get(root) {
             Some(last) => {
-                let name = Vec::from_slice(heap, part_of(self.pool.as_slice(), last.part))?;
+                let name = Vec::from_slice(heap, part_of(self.pool.as_slice(), last.name))?;
                 Ok(Proposal {
                     name,
                     number: last.number,
@@ -77,7 +77,7 @@ impl<'a> Binder<'a> {
     }
 
     // The first name after the root, which is bound, that is bound to nothing, and its number among the proposals.
-    fn free_alias(&self, heap: Global, root: &[u8]) -> Result<Option<Proposal>, AllocError>
+    fn free_alias(&self, heap: Global, root: &[u8]) -> Result<Option<Proposal<Vec<u8>>>, AllocError>
         requires indexed { Indexed self.now }
         requires held { is_some (find (bindings_in self.now) root.now) ≡ true }
         ensures { IfOk result (λ o. FreeAlias (bindings_in self.now) root.now (length self.now.entries.items) o) }
@@ -116,7 +116,7 @@ impl<'a> Binder<'a> {
     fn enter_alias(
         &mut self,
         target: Reference<'a>,
-        alias: Proposal,
+        alias: Proposal<Vec<u8>>,
     ) -> Result<Name<'a>, AllocError>
         requires indexed { Indexed self.old }
         requires unnamed { name_of (bindings_in self.old) (pair_of target) ≡ None }
@@ -134,7 +134,8 @@ impl<'a> Binder<'a> {
         self.pool.extend_from_slice(bytes.as_slice())?;
         let name = Name::Alias(part);
         self.aliases.insert(bytes)?;
-        self.lasts.insert(target.name, Last { part, number })?;
+        self.lasts
+            .insert(target.name, Proposal { name: part, number })?;
         self.targets.insert(target, name)?;
         self.entries.push(Entry { name, target })?;
         Ok(name)

@@ -17,17 +17,10 @@ pub enum Name<'a> {
     Alias(Part),
 }
 
-// The last alias that a root has got, and the number of that proposal.
-#[derive(Clone, Copy)]
-pub(crate) struct Last {
-    pub(crate) part: Part,
-    pub(crate) number: usize,
-}
-
-// A name that is proposed for a root, and its number among the proposals.
+// A name that is proposed for a root, as its bytes or by its place in the pool, and its number among the proposals.
 #[derive(Drop)]
-pub(crate) struct Proposal {
-    pub(crate) name: Vec<u8>,
+pub(crate) struct Proposal<T> {
+    pub(crate) name: T,
     pub(crate) number: usize,
 }
 

@@ -5,7 +5,8 @@ use Rattle.std.specs.Str.{bytes_eq}
 use Rattle.std.proofs.lemmas.Bool.{cond-true, lt-ltb, ne_eqb}
 use Rattle.paths.specs.Paths.{path_text, common, relative_by, relative_text, resolve, read_path, leading, after_dots, parts_of, split, join}
 use Rattle.paths.specs.Laws.{NoDot, SomeByte, PathsResolve, PathsRead, TextsResolve}
-use Rattle.paths.proofs.Names.{same_bytes, join_more, split-join, no_dot_split}
+use Rattle.std.proofs.lemmas.Slice.Eq.{bytes_eq-Decides}
+use Rattle.paths.proofs.Names.{join_more, split-join, no_dot_split}
 
 -- leading parts in common
 
@@ -20,7 +21,7 @@ common-fits (b ∷ bs) (t ∷ ts) = fits-step (bytes_eq b t) (common bs ts) (len
 
 front-step : (same : Bool) (b t : List ℕ) (bs ts : List (List ℕ)) (k : ℕ) → bytes_eq b t ≡ same → take k bs ++ drop k ts ≡ ts →
     take (cond same (suc k) 0) (b ∷ bs) ++ drop (cond same (suc k) 0) (t ∷ ts) ≡ t ∷ ts
-front-step true b t bs ts k e h = let is = same_bytes b t e in cc
+front-step true b t bs ts k e h = let is = (bytes_eq-Decides b t).0 e in cc
 front-step false b t bs ts k e h = refl
 
 common-front : (base target : List (List ℕ)) → take (common base target) base ++ drop (common base target) target ≡ target

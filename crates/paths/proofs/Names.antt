@@ -1,21 +1,10 @@
 -- Names and their parts.
 use Rattle.std.proofs.Common.{◌≡◌, ℕ, Bool, true, false, cond, eqb, List, [], ◌∷◌, ◌++◌, length, replicate, refl, ap, ◌∙◌}
 use Rattle.std.specs.List.{AllByRecursion}
-use Rattle.std.specs.Str.{bytes_eq}
-use Rattle.std.proofs.lemmas.Bool.{and_parts, eqb-true, eqb-false, ne_eqb, false≢true}
+use Rattle.std.proofs.lemmas.Bool.{eqb-true, eqb-false, ne_eqb}
 use Rattle.paths.specs.Paths.{first_part, other_parts, split, join_from, join}
 use Rattle.paths.specs.Shared.{dots_in}
 use Rattle.paths.specs.Laws.{NoDot}
-
-pub same_bytes : (xs ys : List ℕ) → bytes_eq xs ys ≡ true → xs ≡ ys
-same_bytes [] [] e = refl
-same_bytes [] (y ∷ ys) e = absurd (false≢true e)
-same_bytes (x ∷ xs) [] e = absurd (false≢true e)
-same_bytes (x ∷ xs) (y ∷ ys) e =
-    let both = and_parts (eqb x y) (bytes_eq xs ys) e in
-    let first = eqb-true x y both.0 in
-    let rest = same_bytes xs ys both.1 in
-    cc
 
 -- parts joined again
 

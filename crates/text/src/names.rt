@@ -48,6 +48,7 @@ const KEYWORDS: [&[u8]; 35] = [
 ];
 
 /// A byte of an identifier: a digit may not come first.
+// By ranges with a guard for the first byte, as the project tests classes of bytes.
 fn is_name_byte(b: u8, first: bool) -> bool
     ensures { result ≡ (if first then first_byte b else later_byte b) }
 {

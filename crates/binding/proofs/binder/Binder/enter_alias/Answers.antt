@@ -21,5 +21,5 @@ returns c =
     c.args.target (Alias record { start = c.len.result; len = c.len-2.result }) w
     (alias_grows (vec_items s.pool) w _ grown) is lies c.requires.indexed c.requires.unnamed
     c.in_ok-push.ensures.items c.in_ok-insert-3.ensures.updates c.insert-3.ensures.ordered c.requires.indexed.names c.insert.ensures.ordered c.insert-2.ensures.ordered
-    (last_put s.pool.items (vec_items c.extend_from_slice.new.self) (bindings_in s) w (pair_of c.args.target) s.lasts c.insert-2.new.self c.args.target.name record { part = record { start = c.len.result; len = c.len-2.result }; number = c.args.alias.number } last is lies c.requires.comes c.requires.indexed.starts)
+    (last_put s.pool.items (vec_items c.extend_from_slice.new.self) (bindings_in s) w (pair_of c.args.target) s.lasts c.insert-2.new.self c.args.target.name record { name = record { start = c.len.result; len = c.len-2.result }; number = c.args.alias.number } last is lies c.requires.comes c.requires.indexed.starts)
     (alias_put s.names s.aliases c.insert.new.self c.args.alias.name put)

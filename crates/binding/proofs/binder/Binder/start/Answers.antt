@@ -10,7 +10,7 @@ returns-in_ok-name-in-Some c =
     let at = c.in-Some.ensures.value in
     let started : Started (pool_of s) (bindings_in s) c.args.root.now l = subst (λ o. IfSome o (Started (pool_of s) (bindings_in s) c.args.root.now)) (sym at) (c.requires.indexed.starts c.args.root) in
     subst (λ w. Reached (bindings_in s) c.args.root.now w l.number)
-    (sym (c.in_ok-name-in-Some.ensures.items ∙ c.part_of.ensures ∙ ap (λ pool. take l.part.len (drop l.part.start pool)) c.as_slice.ensures.value))
+    (sym (c.in_ok-name-in-Some.ensures.items ∙ c.part_of.ensures ∙ ap (λ pool. take l.name.len (drop l.name.start pool)) c.as_slice.ensures.value))
     started.reached
 
 pub returns-in_ok-name-in-None : goal.returns-in_ok-name-in-None
