@@ -22,5 +22,5 @@ returns t c =
           w.in-Some-holder.is w.in_ok-append_module.ensures (ap vec_items w.out-is ∙ w.in_ok-push.ensures.items)
       | in_default-holder w ↦ none_before c.args.self.now.model.now c.args.self.now.files.now (c.args.depth - 1) _ (vec_items c.args.out.now) _ w.in_default-holder.is (ap vec_items w.out-is)
     ] in
-    adds_name c.args.self.now.model.now c.args.self.now.files.now c.args.depth c.args.number c.in-Some.file.now (vec_items c.args.out.now) (vec_items c.match-file.out) c.at.result.name.now (vec_items c.extend_from_slice.new.self)
+    adds_name c.args.self.now.model.now c.args.self.now.files.now c.args.depth c.args.number c.in-Some.file.now (vec_items c.args.out.now) (vec_items c.match-file.out) c.at-header.result.name.now (vec_items c.extend_from_slice.new.self)
     c.if-depth-eq0.false (slice_get_read c.args.self.now.files.now _ c.args.number c.in-Some.file.now refl (search rules) (search rules)) dotted c.at-header.ensures.name c.in_ok-extend_from_slice.ensures.items
