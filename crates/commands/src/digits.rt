@@ -1,6 +1,7 @@
 // Bytes that are written as pairs of hexadecimal digits.
-ghost use Rattle.std.specs.Prelude.{◌≡◌, IfOk, vec_items};
+ghost use Rattle.std.specs.Prelude.{◌≡◌, IfOk, IfErr, vec_items};
 ghost use Rattle.std.specs.Option.{option_map};
+ghost use Rattle.session.specs.declared.fault.Fault.TheVariants.{Memory};
 ghost use Rattle.commands.specs.Hex.{hex_bytes};
 
 use hex::FromHexError;
@@ -9,7 +10,8 @@ use std::alloc::Global;
 
 // The bytes that the text writes; none where it is no row of pairs of digits.
 pub(crate) fn unhex(heap: Global, text: &[u8]) -> Result<Option<Vec<u8>>, Fault>
-    ensures { IfOk result (λ o. option_map vec_items o ≡ hex_bytes text.now) }
+    ensures value { IfOk result (λ o. option_map vec_items o ≡ hex_bytes text.now) }
+    ensures err { IfErr result (λ e. e ≡ Memory) }
 {
     match hex::decode(heap, text) {
         Ok(bytes) => Ok(Some(bytes)),
