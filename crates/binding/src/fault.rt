@@ -12,6 +12,7 @@ pub enum Fault<'a> {
     Memory,
 }
 
+// By hand, since contracts name the error that a `?` makes, and a derived `From` has no contract.
 impl<'a> From<AllocError> for Fault<'a> {
     ghost from_gives = { λ _ r. r ≡ Memory };
 

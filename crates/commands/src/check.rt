@@ -13,6 +13,7 @@ use std::{fmt, fs, io};
 #[derive(Clone, Copy)]
 struct Verdict(Result<usize, Fault>);
 
+// By hand, since its contract is the text.
 impl fmt::Display for Verdict {
     ghost output = { λ v. Some (verdict_text v.0) };
 

@@ -12,6 +12,7 @@ use verdict::Refusal;
 #[derive(Clone, Copy)]
 pub struct Failure(pub Fault);
 
+// By hand, since its contract is the text.
 impl fmt::Display for Failure {
     ghost output = { λ f. Some (failure_text f.0) };
 

@@ -23,6 +23,7 @@ enum Answer {
 #[derive(Clone, Copy)]
 struct Reply(Result<Answer, Fault>);
 
+// By hand, since its contract is the text.
 impl fmt::Display for Reply {
     ghost output = { λ r. Some (answer_text r.0) };
 

@@ -16,6 +16,7 @@ pub enum Fault {
     Memory,
 }
 
+// By hand, since contracts name the error that a `?` makes, and a derived `From` has no contract.
 impl From<Layout> for Fault {
     ghost from_gives = { λ e r. r ≡ Broken e };
 

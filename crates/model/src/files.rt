@@ -10,7 +10,7 @@ use std::alloc::AllocError;
 pub struct File {
     // where its module's record starts
     pub place: usize,
-    // the number of the file whose module holds it
+    // the number of the file whose module holds it: files are named by their numbers at the session's calls
     pub holder: Option<usize>,
     // where its own declarations start, behind its submodules
     pub own: usize,

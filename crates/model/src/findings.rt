@@ -3,6 +3,8 @@
 ghost use Rattle.std.specs.Prelude.{◌≡◌, cond};
 ghost use Rattle.model.specs.Audit.{earlier, note_name, note_value, note_empty};
 
+use crate::places::sooner;
+
 #[derive(Clone, Copy, Debug, PartialEq, Eq)]
 pub struct Findings {
     pub names: Option<usize>,
@@ -15,7 +17,7 @@ fn note(least: &mut Option<usize>, place: usize, kept: bool)
     ensures { least.new ≡ cond kept least.old (earlier least.old place) }
 {
     if !kept {
-        *least = Some(least.map_or(place, |earlier| earlier.min(place)));
+        *least = sooner(*least, Some(place));
     }
 }
 

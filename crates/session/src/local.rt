@@ -44,7 +44,8 @@ fn write_name<'a>(
     }
 }
 
-// The same for a file that is there, of a model that is read.
+// Writes the local name for a file that is there, of a model that is read. The model and its files are no `Loaded` here: of a slice inside
+// a struct that is passed by value the check has no fact that its elements are bytes, which the proof needs.
 fn local_in<'a>(
     heap: Global,
     model: &'a [u8],

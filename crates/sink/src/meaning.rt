@@ -10,6 +10,7 @@ use std::fmt;
 #[derive(Clone, Copy, Debug, PartialEq, Eq, Hash)]
 pub struct Refusal;
 
+// By hand, since its contract is the text.
 impl fmt::Display for Refusal {
     ghost output = { λ _. Some (codes "the line is refused") };
 

@@ -13,6 +13,7 @@ pub struct RunRefusal {
     pub taken: usize,
 }
 
+// By hand, since its contract is the text.
 impl fmt::Display for RunRefusal {
     ghost output = { λ r. Some (codes "refused after " ++ decimal r.taken) };
 
@@ -27,6 +28,7 @@ impl Error for RunRefusal {}
 pub fn offer_all<S: Sink>(sink: &mut S, lines: &[&[u8]]) -> Result<(), RunRefusal>
     ensures { OfferedAll S.taken S.takes sink.old (map (λ x. x.now) lines.now) result sink.new }
 {
+    // the index is the answer, so no chain is plainer
     for (taken, line) in lines.iter().enumerate() {
         if let Err(Refusal) = sink.offer(line) {
             return Err(RunRefusal { taken });

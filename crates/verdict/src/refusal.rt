@@ -26,7 +26,8 @@ pub enum Refusal {
 }
 
 impl Refusal {
-    // The refusal's number and place; want of memory has none.
+    // The refusal's number and place; want of memory has none. They stay numbers: callers and the program's users are told them,
+    // and this is the one place that gives a case its number.
     pub fn told(&self) -> Option<(u8, usize)>
         ensures { result ≡ told_of self.now }
     {
@@ -43,6 +44,7 @@ impl Refusal {
     }
 }
 
+// By hand, since contracts name the error that a `?` makes, and a derived `From` has no contract.
 impl From<AllocError> for Refusal {
     ghost from_gives = { λ _ r. r ≡ Memory };
 

@@ -164,6 +164,7 @@ impl<'a> Cursor<'a> {
         }
     }
 
+    // A loop of its own, since its steps cannot fail: `times` would need a second form for it.
     #[cycle(skips)]
     fn skip_list(&mut self, n: u16, depth: u8)
         ensures rest { self.new.rest.now ≡ skips_at (skip_at depth) n self.old.rest.now }
