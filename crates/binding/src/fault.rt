@@ -5,7 +5,7 @@ ghost use Rattle.binding.specs.declared.fault.Fault.TheVariants.{Memory};
 use references::Reference;
 use std::alloc::{AllocError, AllocFailed};
 
-#[derive(Clone, Copy)]
+#[derive(Clone, Copy, Debug, PartialEq, Eq)]
 pub enum Fault<'a> {
     // all proposals for this reference are bound to others
     Exhausted(Reference<'a>),

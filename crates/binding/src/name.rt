@@ -4,14 +4,15 @@ ghost use Rattle.binding.specs.Held.{text_of};
 
 use references::Reference;
 
-// Where an alias stands in the pool. All aliases lie in one pool, so that a name is a slice of it or of the model.
-#[derive(Clone, Copy)]
+// Where an alias stands in the pool. All aliases lie in one pool that grows, so that a name can be copied into three tables and
+// is a slice of the pool or of the model.
+#[derive(Clone, Copy, Debug, PartialEq, Eq)]
 pub struct Part {
     pub start: usize,
     pub len: usize,
 }
 
-#[derive(Clone, Copy)]
+#[derive(Clone, Copy, Debug, PartialEq, Eq)]
 pub enum Name<'a> {
     Model(&'a [u8]),
     Alias(Part),
@@ -25,7 +26,7 @@ pub(crate) struct Proposal<T> {
 }
 
 // A name, and the module and root attribute that it is bound to.
-#[derive(Clone, Copy)]
+#[derive(Clone, Copy, Debug, PartialEq, Eq)]
 pub struct Entry<'a> {
     pub name: Name<'a>,
     pub target: Reference<'a>,

@@ -1,7 +1,8 @@
 // The calls that a session answers.
 ghost use Rattle.commands.specs.Calls.{Means};
 
-// A call, as its line writes it; the digits of a model are not read yet.
+// A call, as its line writes it; the digits of a model are not read yet. What is no call is a case and no None, since it has an
+// answer of its own.
 #[derive(Clone, Copy, Debug, PartialEq, Eq)]
 pub enum Call<'a> {
     Load(&'a [u8]),

@@ -3,11 +3,12 @@ ghost use Rattle.std.specs.Prelude.{Some};
 ghost use Rattle.commands.specs.Checks.{ChecksFile};
 ghost use Rattle.commands.specs.Texts.{verdict_text};
 
+use crate::Undone;
 use crate::report::cause;
 use session::{Fault, Session};
 use std::alloc::Global;
 use std::env::Args;
-use std::{fmt, fs, io};
+use std::{fmt, fs};
 
 // How many files a model has, or why it is not loaded.
 #[derive(Clone, Copy)]
@@ -31,22 +32,25 @@ impl fmt::Display for Verdict {
     }
 }
 
-// Whether each file got an answer. None keeps those behind it from being checked.
-pub(crate) fn files(rt: &HostRuntime, names: Args) -> io::Result<bool> {
-    let mut all = true;
+// Checks each file; one without an answer keeps none of those behind it from being checked.
+pub(crate) fn files(rt: &HostRuntime, names: Args) -> Result<(), Undone> {
+    let mut done = Ok(());
     for name in names {
-        all &= file(rt, name.as_str())?;
+        match file(rt, name.as_str()) {
+            Err(Undone::Said) => done = Err(Undone::Said),
+            other => other?,
+        }
     }
-    Ok(all)
+    done
 }
 
-// Whether the file got an answer: it is loaded or refused.
-fn file(rt: &HostRuntime, name: &str) -> io::Result<bool> {
+// Says of a file whether it is loaded or refused, or why there is no answer.
+fn file(rt: &HostRuntime, name: &str) -> Result<(), Undone> {
     let model = match fs::read(rt, name) {
         Ok(model) => model,
         Err(e) => {
             let _ = eprintln!(rt; "{name}: cannot be read: {e}");
-            return Ok(false);
+            return Err(Undone::Said);
         }
     };
     let verdict = Verdict(files_of(rt.alloc(), model.as_slice()));
@@ -54,10 +58,10 @@ fn file(rt: &HostRuntime, name: &str) -> io::Result<bool> {
         && fault.told().is_none()
     {
         let _ = eprintln!(rt; "{name}: {verdict}");
-        return Ok(false);
+        return Err(Undone::Said);
     }
     println!(rt; "{name}: {verdict}")?;
-    Ok(true)
+    Ok(())
 }
 
 // How many files the model has, in a session of its own.

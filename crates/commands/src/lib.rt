@@ -9,10 +9,9 @@ mod digits;
 mod report;
 mod serve;
 
-use std::process::ExitCode;
 use std::{env, io};
 
-// What the command line asks for.
+// What the command line asks for. What is no command is a case and no None, since it has an answer of its own.
 #[derive(Clone, Copy, Debug, PartialEq, Eq)]
 enum Command {
     Check,
@@ -26,36 +25,52 @@ const USAGE: &str = "usage: pumpsooner check FILE..
        pumpsooner session
            answers the calls on standard input, one a line: load HEX, count";
 
-// Runs the command that the program's arguments name, and answers the program's status: what there is to say of a failure is
-// printed.
-pub fn run(rt: &HostRuntime) -> ExitCode {
+// Not all was done that was asked; what there is to say was printed.
+#[derive(Clone, Copy, Debug, PartialEq, Eq)]
+pub struct Failed;
+
+// Why not all was done that was asked.
+#[derive(Drop)]
+pub(crate) enum Undone {
+    // what there is to say was printed
+    Said,
+    Io(io::Error),
+}
+
+impl From<io::Error> for Undone {
+    fn from(e: io::Error) -> Undone {
+        Undone::Io(e)
+    }
+}
+
+// Runs the command that the program's arguments name.
+pub fn run(rt: &HostRuntime) -> Result<(), Failed> {
     match run_command(rt) {
-        Ok(true) => ExitCode::SUCCESS,
-        Ok(false) => ExitCode::FAILURE,
-        Err(e) => {
+        Ok(()) => Ok(()),
+        Err(Undone::Said) => Err(Failed),
+        Err(Undone::Io(e)) => {
             let _ = eprintln!(rt; "pumpsooner: {e}");
-            ExitCode::FAILURE
+            Err(Failed)
         }
     }
 }
 
-// Whether all was done that was asked.
-fn run_command(rt: &HostRuntime) -> io::Result<bool> {
+fn run_command(rt: &HostRuntime) -> Result<(), Undone> {
     let mut words = match env::args(rt) {
         Ok(words) => words,
         Err(e) => {
             let _ = eprintln!(rt; "pumpsooner: the arguments cannot be read: {e}");
-            return Ok(false);
+            return Err(Undone::Said);
         }
     };
     let _program = words.next();
     let Some(word) = words.next() else {
-        return Ok(usage(rt));
+        return Err(usage(rt));
     };
     match command_of(word.as_str(), words.len()) {
         Command::Check => check::files(rt, words),
-        Command::Session => serve::session(rt),
-        Command::Unknown => Ok(usage(rt)),
+        Command::Session => Ok(serve::session(rt)?),
+        Command::Unknown => Err(usage(rt)),
     }
 }
 
@@ -71,7 +86,7 @@ fn command_of(word: &str, more: usize) -> Command
 }
 
 // Shows what can be asked, which is nothing done.
-fn usage(rt: &HostRuntime) -> bool {
+fn usage(rt: &HostRuntime) -> Undone {
     let _ = eprintln!(rt; "{USAGE}");
-    false
+    Undone::Said
 }

@@ -24,7 +24,7 @@ impl fmt::Display for Failure {
     }
 }
 
-// What there is to say of a fault.
+// What there is to say of a fault. The fault is another crate's type, which can have no Display here.
 pub(crate) fn cause(fault: &Fault) -> &'static str
     ensures { result.now ≡ cause_of (told fault.now) }
 {

@@ -38,7 +38,7 @@ impl fmt::Display for Reply {
 }
 
 // Answers every line, in one session. It is done at the end of the input.
-pub(crate) fn session(rt: &HostRuntime) -> io::Result<bool> {
+pub(crate) fn session(rt: &HostRuntime) -> io::Result<()> {
     let heap = rt.alloc();
     let mut session = Session::new(heap);
     let mut input = BufReader::new(heap, rt.stdin())?;
@@ -57,8 +57,7 @@ pub(crate) fn session(rt: &HostRuntime) -> io::Result<bool> {
         let reply = Reply(reply_to(heap, &mut session, without_newline(line.as_slice())));
         writeln!(output, "{reply}")?;
     }
-    output.flush()?;
-    Ok(true)
+    output.flush()
 }
 
 // The line with no newline at its end.

@@ -71,7 +71,7 @@ pub fn import_lines(
 {
     let mut lines = BTreeSet::new(heap);
     let mut line = Vec::new(heap);
-    // No entry of the own module is imported, so the first one that is begins a line.
+    // No entry of the own module is imported, so the first one that is begins a line, and no line yet needs no Option.
     let mut from = own;
     for e in bindings.entries {
         let name = text_of(bindings.pool, e.name);

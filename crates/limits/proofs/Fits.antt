@@ -11,17 +11,8 @@ use Rattle.model.specs.declared.files.Listed.{Listed}
 use Rattle.model.specs.declared.uses.Use.{Use}
 use Rattle.model.specs.declared.uses.Declared.{Declared}
 use Rattle.model.specs.declared.uses.Reference.{Reference}
-use Rattle.limits.specs.Entries.{keyed}
+use Rattle.limits.specs.Entries.{keyed, text_cmp, reference_cmp, sibling_cmp}
 use Rattle.limits.proofs.Same.{then_ties, text_ties, holder_ties, repeats_fit, over_fit}
-
-abbrev text_cmp : Bor (List ℕ) → Bor (List ℕ) → Ordering
-text_cmp x y = slice_cmp nat_cmp x.now y.now
-
-abbrev reference_cmp : Reference → Reference → Ordering
-reference_cmp x y = ordering_then (text_cmp x.from y.from) (text_cmp x.name y.name)
-
-abbrev sibling_cmp : Option ℕ × Bor (List ℕ) → Option ℕ × Bor (List ℕ) → Ordering
-sibling_cmp x y = ordering_then (option_cmp nat_cmp x.0 y.0) (text_cmp x.1 y.1)
 
 pub declared_fits : {E : Type 0} (r : Result (Option ℕ) E) (ds : List Declared) → IfOk r (λ p. p ≡ least (over (eq_by_cmp text_cmp) distinct_allowed (map (keyed (λ (d : Declared). d.place) (λ (d : Declared). d.name)) ds)))
     → IfOk r (λ p. p ≡ least (surplus_declared_of (map declared_of ds)))

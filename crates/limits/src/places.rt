@@ -13,7 +13,7 @@ use std::collections::BTreeSet;
 // So many different keys are allowed.
 const LIMIT: usize = 512;
 
-// The least place of an entry whose key came before. The entries need not come by their places, so the walk goes on after a find.
+// The least place of an entry whose key came before. The entries need not come by their places, so the loop goes on after a find.
 pub(crate) fn least_repeat<E: Entry>(
     heap: Global,
     entries: &[E],

@@ -16,6 +16,7 @@ pub trait Field: Copy + Drop {
     // The first number above all maps of this record.
     const LIMIT: u16;
 
+    // The value of this field's bit.
     fn value(self) -> u16
         ensures { result ≡ value self };
 }
@@ -129,6 +130,14 @@ impl<F: Field> Fields<F> {
             map,
             of: PhantomData,
         }
+    }
+
+    // The map itself.
+    pub fn map(&self) -> u16
+        ensures { result ≡ map_of self.now }
+    {
+        let Fields { map, .. } = self;
+        *map
     }
 
     // Whether this field stands.

@@ -42,6 +42,7 @@ impl<'a> Listing<'a> {
             file: File {
                 place,
                 holder,
+                // a number until `settle` knows it, so that those who read a finished list ask for none
                 own: 0,
             },
             name,

@@ -12,7 +12,7 @@ pub struct Findings {
     pub empty: Option<usize>,
 }
 
-// The least place so far, after one at which a rule is kept or not.
+// Notes a place at which a rule is kept or broken: the least of those that break it is kept.
 fn note(least: &mut Option<usize>, place: usize, kept: bool)
     ensures { least.new ≡ cond kept least.old (earlier least.old place) }
 {

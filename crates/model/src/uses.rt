@@ -8,14 +8,14 @@ pub struct Reference<'a> {
 }
 
 // A reference, at the place of the expression that is it.
-#[derive(Clone, Copy)]
+#[derive(Clone, Copy, Debug, PartialEq, Eq)]
 pub struct Use<'a> {
     pub place: usize,
     pub reference: Reference<'a>,
 }
 
 // A declared name, at the place of the record that declares it.
-#[derive(Clone, Copy)]
+#[derive(Clone, Copy, Debug, PartialEq, Eq)]
 pub struct Declared<'a> {
     pub place: usize,
     pub name: &'a [u8],

@@ -24,8 +24,8 @@ fn read_number(digits: &[u8]) -> u64
     }
 }
 
-// How many bytes stand before the digits that end the name, and what those digits count as. The pair is the form in which
-// the project asks for them.
+// How many bytes stand before the digits that end the name, and what those digits count as: whoever goes on from a name wants
+// both, so they are a pair.
 pub fn split_number(name: &[u8]) -> (usize, u64)
     ensures front { result.0 ≡ front name.now }
     ensures number { result.1 ≡ number name.now }

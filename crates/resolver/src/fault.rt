@@ -5,7 +5,7 @@ ghost use Rattle.resolver.specs.Answers.{told as told_of};
 
 use std::alloc::AllocError;
 
-#[derive(Clone, Copy)]
+#[derive(Clone, Copy, Debug, PartialEq, Eq)]
 pub enum Fault {
     // a reference to the own module whose root is not declared
     Undeclared(usize),

@@ -28,6 +28,7 @@ pub fn resolve<'a>(
     match bind_names(heap, own, declared, references.as_slice()) {
         Ok(names) => Ok(names),
         Err(Unbound::Exhausted(reference)) => {
+            // a law says that there is a use, and the definition falls back to 0, too
             let place = first_use(uses, reference).unwrap_or(0);
             Err(Fault::Exhausted(place))
         }

@@ -7,7 +7,7 @@ use resolver::Fault as Unresolved;
 use std::alloc::AllocError;
 use verdict::Refusal;
 
-#[derive(Clone, Copy)]
+#[derive(Clone, Copy, Debug, PartialEq, Eq)]
 pub enum Fault {
     // the model is refused
     Reader(Refusal),

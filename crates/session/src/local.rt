@@ -44,8 +44,8 @@ fn write_name<'a>(
     }
 }
 
-// Writes the local name for a file that is there, of a model that is read. The model and its files are no `Loaded` here: of a slice inside
-// a struct that is passed by value the check has no fact that its elements are bytes, which the proof needs.
+// Writes the local name for a file that is there, of a model that is read. Tried with a `Loaded` for the model and
+// its files: of a slice inside a struct the check has no fact that its elements are bytes, which the proof needs.
 fn local_in<'a>(
     heap: Global,
     model: &'a [u8],
@@ -64,7 +64,8 @@ fn local_in<'a>(
 }
 
 impl Session {
-    // Writes what a reference is called in this file to the buffer's start, and answers its length.
+    // Writes what a reference is called in this file to the buffer's start, and answers its length. The pair comes as two texts
+    // and the buffer by `&mut`, since callers of any language have these.
     pub fn local<'a>(
         &'a self,
         file: usize,

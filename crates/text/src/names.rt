@@ -48,7 +48,7 @@ const KEYWORDS: [&[u8]; 35] = [
 ];
 
 /// A byte of an identifier: a digit may not come first.
-// By ranges with a guard for the first byte, as the project tests classes of bytes.
+// By ranges with a guard for the first byte, so that the class stands here as its rule has it.
 fn is_name_byte(b: u8, first: bool) -> bool
     ensures { result ≡ (if first then first_byte b else later_byte b) }
 {

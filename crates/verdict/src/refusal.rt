@@ -6,7 +6,7 @@ ghost use Rattle.verdict.specs.Answers.{told as told_of, from_fault};
 use model::Fault;
 use std::alloc::AllocError;
 
-#[derive(Clone, Copy)]
+#[derive(Clone, Copy, Debug, PartialEq, Eq)]
 pub enum Refusal {
     // no byte, or too many
     Size,

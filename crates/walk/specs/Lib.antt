@@ -4,3 +4,4 @@ pub mod Repeats
 pub mod Walks
 pub mod Collects
 pub mod Reached
+pub mod Yields

@@ -3,8 +3,9 @@
 ghost use Rattle.std.specs.Prelude.{◌≡◌, drop, length};
 ghost use Rattle.model.specs.Maps.{map_of};
 ghost use Rattle.model.specs.Read.{place as place_of};
-ghost use Rattle.model.specs.Steps.{head_of};
+ghost use Rattle.model.specs.Steps.{as_is, head_of};
 ghost use Rattle.walk.specs.Total.{byte as byte_at, number as number_at, text as text_at, count as count_at, head as head_at};
+ghost use Rattle.walk.specs.Yields.{Yields, Passes};
 ghost use Rattle.walk.specs.Puts.{skip as skip_at, skip_parts as skip_parts_at, skips as skips_at, Bare};
 
 use model::{Expression, Field, Fields};
@@ -38,9 +39,7 @@ impl<'a> Cursor<'a> {
     }
 
     pub fn byte(&mut self) -> u8
-        ensures is { result ≡ (byte_at self.old.rest.now).0 }
-        ensures rest { self.new.rest.now ≡ (byte_at self.old.rest.now).1 }
-        ensures end { self.new.end ≡ self.old.end }
+        ensures { Yields as_is byte_at self.old self.new result }
     {
         let Some((first, behind)) = self.rest.split_first() else {
             return 0;
@@ -51,9 +50,7 @@ impl<'a> Cursor<'a> {
 
     // A number of 16 bits, the high byte first.
     pub fn number(&mut self) -> u16
-        ensures is { result ≡ (number_at self.old.rest.now).0 }
-        ensures rest { self.new.rest.now ≡ (number_at self.old.rest.now).1 }
-        ensures end { self.new.end ≡ self.old.end }
+        ensures { Yields as_is number_at self.old self.new result }
     {
         let high = self.byte();
         let low = self.byte();
@@ -62,18 +59,14 @@ impl<'a> Cursor<'a> {
 
     // A record's map, whatever its bits.
     pub fn fields<F: Field>(&mut self) -> Fields<F>
-        ensures is { map_of result ≡ (number_at self.old.rest.now).0 }
-        ensures rest { self.new.rest.now ≡ (number_at self.old.rest.now).1 }
-        ensures end { self.new.end ≡ self.old.end }
+        ensures { Yields map_of number_at self.old self.new result }
     {
         Fields::of(self.number())
     }
 
     // A text: its length, and as many bytes, or all that are left.
     pub fn text(&mut self) -> &'a [u8]
-        ensures is { result.now ≡ (text_at self.old.rest.now).0 }
-        ensures rest { self.new.rest.now ≡ (text_at self.old.rest.now).1 }
-        ensures end { self.new.end ≡ self.old.end }
+        ensures { Yields (λ text. text.now) text_at self.old self.new result }
     {
         let count = self.number();
         let length = usize::from(count).min(self.rest.len());
@@ -84,18 +77,15 @@ impl<'a> Cursor<'a> {
 
     // How many items a list field has: none where it does not stand.
     pub fn count(&mut self, stands: bool) -> u16
-        ensures is { result ≡ (count_at stands self.old.rest.now).0 }
-        ensures rest { self.new.rest.now ≡ (count_at stands self.old.rest.now).1 }
-        ensures end { self.new.end ≡ self.old.end }
+        ensures { Yields as_is (count_at stands) self.old self.new result }
     {
         if stands { self.number() } else { 0 }
     }
 
-    // How the next expression begins.
+    // How the next expression begins. The tags stand as numbers: an enum of them would name each kind once more, only to be read
+    // into an Expression at once.
     pub fn next(&mut self) -> Expression<'a>
-        ensures is { head_of result ≡ (head_at self.old.rest.now).0 }
-        ensures rest { self.new.rest.now ≡ (head_at self.old.rest.now).1 }
-        ensures end { self.new.end ≡ self.old.end }
+        ensures { Yields head_of head_at self.old self.new result }
     {
         match self.byte() {
             0 => Expression::None,
@@ -136,8 +126,7 @@ impl<'a> Cursor<'a> {
     // Passes over an expression that may go this deep.
     #[cycle(skips)]
     pub fn skip_expr(&mut self, depth: u8)
-        ensures rest { self.new.rest.now ≡ skip_at depth self.old.rest.now }
-        ensures end { self.new.end ≡ self.old.end }
+        ensures { Passes (skip_at depth) self.old self.new }
     {
         if depth > 0 {
             let head = self.next();
@@ -147,8 +136,7 @@ impl<'a> Cursor<'a> {
 
     #[cycle(skips)]
     fn skip_parts(&mut self, head: Expression<'a>, depth: u8)
-        ensures rest { self.new.rest.now ≡ skip_parts_at (skip_at depth) (head_of head.entry) self.old.rest.now }
-        ensures end { self.new.end ≡ self.old.end }
+        ensures { Passes (skip_parts_at (skip_at depth) (head_of head.entry)) self.old self.new }
     {
         match head {
             Expression::Attribute => {
@@ -164,11 +152,9 @@ impl<'a> Cursor<'a> {
         }
     }
 
-    // A loop of its own, since its steps cannot fail: `times` would need a second form for it.
     #[cycle(skips)]
     fn skip_list(&mut self, n: u16, depth: u8)
-        ensures rest { self.new.rest.now ≡ skips_at (skip_at depth) n self.old.rest.now }
-        ensures end { self.new.end ≡ self.old.end }
+        ensures { Passes (skips_at (skip_at depth) n) self.old self.new }
     {
         // `times` is for steps that may fail, which these do not.
         for _ in 0..n {

@@ -14,7 +14,7 @@ pub struct Header<'a, F> {
 }
 
 impl<'a, F: Field> Header<'a, F> {
-    // Of the record at this place.
+    // The header of the record at this place.
     pub fn at(model: &'a [u8], place: usize) -> Self
         ensures fields { map_of result.fields ≡ (number_at (drop place model.now)).0 }
         ensures name { result.name.now ≡ (text_at (number_at (drop place model.now)).1).0 }
@@ -25,7 +25,7 @@ impl<'a, F: Field> Header<'a, F> {
 }
 
 impl<'a> Cursor<'a> {
-    // Of the next record.
+    // The header of the next record.
     pub fn header<F: Field>(&mut self) -> Header<'a, F>
         ensures fields { map_of result.fields ≡ (number_at self.old.rest.now).0 }
         ensures name { result.name.now ≡ (text_at (number_at self.old.rest.now).1).0 }
