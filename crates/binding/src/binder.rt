@@ -11,7 +11,8 @@ use std::alloc::{AllocError, Global};
 use std::collections::{BTreeMap, BTreeSet};
 
 // That the indexes hold what the bindings say stands in the contracts. It can be no ghost field: where an insert fails, those
-// before it are made already, and a ghost field has to hold at that `?` too.
+// before it are made already, and a ghost field has to hold at that `?` too. The allocator is handed to the steps that allocate,
+// as it is to the library's calls.
 #[derive(Drop)]
 pub(crate) struct Binder<'a> {
     pub(crate) pool: Vec<u8>,

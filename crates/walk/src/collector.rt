@@ -43,7 +43,8 @@ impl<'a> Collector<'a> {
     }
 }
 
-// The declarations of a file stand at its `own`, and which fields they have at its `place`.
+// The declarations of a file stand at its `own`, and which fields they have at its `place`. Model and file are two arguments, since
+// callers have the file from lists of different kinds.
 pub fn collect<'a>(heap: Global, model: &'a [u8], file: File) -> Result<Collected<'a>, AllocError>
     ensures { IfOk result (λ v. Collects model.now file v) }
 {
