@@ -1,5 +1,5 @@
 -- How a pass that gathers as it reads goes on: the exit of a `?`, one step into an expression or a class, and a loop over items.
-use Rattle.std.proofs.Common.{◌≡◌, ℕ, zero, suc, ◌+◌, ◌-◌, ◌<◌, ◌≤◌, Bool, true, List, IsErrAnd, Ok, Err, Option, Result, sym, refl, ap, ◌∙◌, arith}
+use Rattle.std.proofs.Common.{◌≡◌, ℕ, zero, suc, ◌+◌, ◌-◌, ◌<◌, Bool, true, List, IsErrAnd, Ok, Err, Option, Result, sym, refl, ap, ◌∙◌, arith}
 use Rattle.std.proofs.lemmas.Result.{err_from_is_err_and}
 use Rattle.model.specs.declared.cursor.Cursor.{Cursor}
 use Rattle.model.specs.declared.reader.Reader.{Reader}
@@ -69,13 +69,6 @@ sofar_more one n i before mid after f g h l s w = record {
   is = s.is ∙ laps-more (one before.end) n i mid.rest.now g l ∙ ap (λ (o : Out _). bind o (λ g r. laps (one before.end) (n - (i + 1)) r g)) (ap (λ (k : ℕ). one k mid.rest.now g) (sym s.end) ∙ w.is);
   end = w.end ∙ s.end;
 }
-
-pub sofar_fault : {S : Type 0} (one : ℕ → List ℕ → S → Out S) (n i p : ℕ) (before mid : Cursor) (f g : S) → i < n → Sofar (one before.end) n i before mid f g → one mid.end mid.rest.now g ≡ fault p → laps (one before.end) n before.rest.now f ≡ fault p
-sofar_fault one n i p before mid f g l s w =
-    s.is ∙ laps-more (one before.end) n i mid.rest.now g l ∙ ap (λ (o : Out _). bind o (λ g r. laps (one before.end) (n - (i + 1)) r g)) (ap (λ (k : ℕ). one k mid.rest.now g) (sym s.end) ∙ w)
-
-pub sofar_done : {S : Type 0} (one : List ℕ → S → Out S) (n i : ℕ) (before after : Cursor) (f g : S) → n ≤ i → Sofar one n i before after f g → Went (laps one n) before after f g
-sofar_done one n i before after f g l s = let e : n - i ≡ 0 = omega arith in record { is = s.is ∙ rw e refl; end = s.end }
 
 -- a list field that stands
 pub listed_by : {S : Type 0} (one : ℕ → List ℕ → S → Out S) (stands : Bool) (before at : Cursor) (f : S) (k : ℕ) → stands ≡ true → Passed (count before.end) k before at → audit_list before.end (one before.end) stands before.rest.now f ≡ laps (one at.end) k at.rest.now f

@@ -1,4 +1,5 @@
 pub mod Going
+pub mod Repeating
 pub mod Exact
 pub mod Numbers
 pub mod Rows

@@ -6,6 +6,7 @@ pub mod Laws
 pub mod Fields
 pub mod Maps
 pub mod Steps
+pub mod Repeats
 pub mod Rules
 pub mod Files
 pub mod Audit

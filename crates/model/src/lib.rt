@@ -12,6 +12,7 @@ mod modules;
 mod places;
 mod read;
 mod reader;
+mod repeat;
 mod uses;
 
 pub use expression::Expression;
@@ -22,4 +23,5 @@ pub use findings::Findings;
 pub use laws::{faults_for_good, faults_in_time, reads_exactly};
 pub use places::sooner;
 pub use read::{Audit, DEEPEST, read_model};
+pub use repeat::times;
 pub use uses::{Declared, Reference, Use};

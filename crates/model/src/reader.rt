@@ -10,6 +10,7 @@ use crate::expression::Expression;
 use crate::fault::Layout;
 use crate::fields::{ClassField, Fields, FunctionField, ModuleField, ValueField};
 use crate::findings::Findings;
+use crate::repeat::times;
 
 #[derive(Clone, Copy)]
 pub(crate) struct Reader<'a> {
@@ -18,21 +19,6 @@ pub(crate) struct Reader<'a> {
 }
 
 impl<'a> Reader<'a> {
-    // The next n items, each read by `item`.
-    fn times<F: Fn(&mut Self) -> Result<(), Layout>>(
-        &mut self,
-        n: u16,
-        item: F,
-    ) -> Result<(), Layout>
-        requires { F.IsAlwaysCallable item }
-        ensures { (one : _) → CallsGo (λ x r y. F.post item x r y) one → Goes self.old self.new result (laps (one self.old.at.end) n) }
-    {
-        for _ in 0..n {
-            item(self)?;
-        }
-        Ok(())
-    }
-
     // A list field, where it stands; `item` reads one of its items.
     fn each<F: Fn(&mut Self) -> Result<(), Layout>>(
         &mut self,
@@ -46,7 +32,7 @@ impl<'a> Reader<'a> {
             return Ok(());
         }
         let n = self.at.count()?;
-        self.times(n, item)
+        times(n, self, item)
     }
 
     // What the head of an expression shows against the rules.
@@ -102,8 +88,9 @@ impl<'a> Reader<'a> {
     fn list(&mut self, n: u16, depth: u8) -> Result<(), Layout>
         ensures { Goes self.old self.new result (laps (audit_expr self.old.at.end depth) n) }
     {
-        self.times(
+        times(
             n,
+            self,
             |reader|
                 ensures { Goes reader.entry.now reader.exit.now result (audit_expr reader.entry.now.at.end depth) }
             { reader.expression(depth) },

@@ -1,21 +1,20 @@
 -- What so many steps lead to.
-use Rattle.std.proofs.Common.{◌≡◌, ℕ, zero, suc, ◌+◌, ◌-◌, ◌<◌, ◌≤◌, Bool, List, [], ◌∷◌, ◌++◌, vec_items, map, Ok, Result, refl, ap, ◌∙◌, subst, arith, MutBor}
+use Rattle.std.proofs.Common.{◌≡◌, ℕ, zero, suc, ◌+◌, ◌-◌, ◌<◌, ◌≤◌, Bool, List, [], ◌∷◌, ◌++◌, vec_items, map, Ok, Err, OnOk, Result, refl, inl, inr, ap, ◌∙◌, subst, arith, MutBor}
 use Rattle.std.specs.Fn.{Shared}
-use Rattle.walk.specs.Repeats.{Steps, Repeats}
+use Rattle.model.specs.Repeats.{Calls, Repeats as RepeatsUpTo}
+use Rattle.walk.specs.Repeats.{Repeats}
 use Rattle.walk.specs.Total.{rows, count, listed}
+use Rattle.std.proofs.lemmas.Bool.{false≢true}
 use Rattle.std.proofs.lemmas.List.{map_push}
 use Rattle.walk.specs.Puts.{Gathered, own_put}
 use Rattle.model.specs.Steps.{declared_of}
-use Rattle.walk.specs.Walks.{Walks, Tells, Owns, left, uses_of, gathered}
+use Rattle.walk.specs.Walks.{Walks, WalksEach, Tells, Owns, left, uses_of, gathered}
 use Rattle.std.specs.declared.alloc.AllocError.{AllocError}
 use Rattle.model.specs.declared.uses.Declared.{Declared as DeclaredOf}
 use Rattle.walk.specs.Collects.{Declares, DeclaresEach}
 use Rattle.walk.specs.declared.walker.Walker.{Walker}
 use Rattle.walk.specs.declared.collector.Collector.{Collector}
 use Rattle.model.specs.Uses.{Use, Declared}
-
-pub step_made : {F S R E : Type 0} (g : Shared F (MutBor S × Unit {0}) (Result R E × (MutBor S × Unit {0}))) (f : F) (x y : MutBor S) (r : Result R E) (v : R) → r ≡ Ok v → g.post f (x, tt) (r, (y, tt)) → Steps g f x.now y.now
-step_made g f x y r v e h = record { shown = x; shows = refl; value = v; left = y; met = subst (λ o. g.post f (x, tt) (o, (y, tt))) e h; leaves = refl }
 
 pub declares_made : {F : Type 0} (g : Shared F (MutBor Walker × (ℕ × Unit {0})) (Result DeclaredOf AllocError × (MutBor Walker × Unit {0}))) (f : F) (depth : ℕ) (x y : MutBor Walker) (r : Result DeclaredOf AllocError) (one : DeclaredOf) (s t : Collector) → r ≡ Ok one → g.post f (x, (depth, tt)) (r, (y, tt)) → x.now ≡ s.walker → y.now ≡ t.walker → vec_items t.declared ≡ vec_items s.declared ++ one ∷ [] → Declares g f depth s t
 declares_made g f depth x y r one s t e h ex ey ed = record { shown = x; shows = ex; one = one; left = y; met = subst (λ o. g.post f (x, (depth, tt)) (o, (y, tt))) e h; leaves = ey; declared = ed }
@@ -44,20 +43,35 @@ module _ {S T A L : Type 0} (rest : S → List ℕ) (end : S → ℕ) (state : S
       let er : rest m ≡ (one e (rest s)).1 = a.0 ∙ ap (λ o. o.1) at in
       (b.0 ∙ ap (λ x. (rows none more (one e) n x).1) er, b.1 ∙ ((λ i. all (rows none more (one e) n (er i)).0 ((a.1 ∙ ap (λ o. put o.0 (state s)) at) i)) ∙ cons _ _ (state s)), b.2 ∙ a.2)
 
+-- calls of which none fails
+all_ok : {S E : Type 0} (call : S → Result (Unit {0}) E → S → Type 0) (n : ℕ) (s t : S) → RepeatsUpTo call n s (Ok tt) t → Repeats (λ s t. call s (Ok tt) t) n s t
+all_ok call zero s t p = p.1
+all_ok call (suc n) s t (inl p) = absurd (false≢true p.1)
+all_ok call (suc n) s t (inr p) = (p.0, p.1, all_ok call n p.0 t p.2)
+
+pub each_walked : {F : Type 0} (g : Shared F (MutBor Walker × Unit {0}) (Result (Unit {0}) AllocError × (MutBor Walker × Unit {0}))) (f : F) (stands : Bool) (n : ℕ) (w0 w1 w2 : Walker) (r : Result (Unit {0}) AllocError) → n ≡ (count stands (left w0)).0 → left w1 ≡ (count stands (left w0)).1 → w1.at.end ≡ w0.at.end → uses_of w1 ≡ uses_of w0 → RepeatsUpTo (Calls g f) n w1 r w2 → OnOk r (WalksEach g f stands w0 w2)
+each_walked g f stands n w0 w1 w2 (Ok tt) en el ee eu h = record { counted = w1; rest = el; uses = eu; end = ee; each = subst (λ k. RepeatsUpTo (Calls g f) k w1 (Ok tt) w2) en h }
+each_walked g f stands n w0 w1 w2 (Err e) en el ee eu h = tt
+
 -- a walk over items, and one over a list field, which is its count and then as many items
-module _ {A L : Type 0} (none : L) (more : A → L → L) (one : ℕ → List ℕ → A × List ℕ) (put : A → List Use → List Use) (all : L → List Use → List Use) (nothing : (x : List Use) → x ≡ all none x) (cons : (a : A) (l : L) (x : List Use) → all l (put a x) ≡ all (more a l) x) (step : Walker → Walker → Type 0) (walks : (s t : Walker) → step s t → Walks put (one s.at.end) s t) where
-  pub walks_rows : (n : ℕ) (w0 w1 : Walker) → Repeats step n w0 w1 → Walks all (rows none more (one w0.at.end) n) w0 w1
-  walks_rows n w0 w1 r =
-      let g = repeated left (λ w. w.at.end) uses_of none more one put all nothing cons step (λ s t x. let w = walks s t x in (w.rest, w.uses, w.end)) n w0.at.end w0 w1 refl r in
+module _ {A L : Type 0} (none : L) (more : A → L → L) (one : ℕ → List ℕ → A × List ℕ) (put : A → List Use → List Use) (all : L → List Use → List Use) (nothing : (x : List Use) → x ≡ all none x) (cons : (a : A) (l : L) (x : List Use) → all l (put a x) ≡ all (more a l) x) {F : Type 0} (g : Shared F (MutBor Walker × Unit {0}) (Result (Unit {0}) AllocError × (MutBor Walker × Unit {0}))) (f : F) (walks : (s t : Walker) → Calls g f s (Ok tt) t → Walks put (one s.at.end) s t) where
+  rows_walked : (n : ℕ) (w0 w1 : Walker) → RepeatsUpTo (Calls g f) n w0 (Ok tt) w1 → Walks all (rows none more (one w0.at.end) n) w0 w1
+  rows_walked n w0 w1 r =
+      let g = repeated left (λ w. w.at.end) uses_of none more one put all nothing cons (λ s t. Calls g f s (Ok tt) t) (λ s t x. let w = walks s t x in (w.rest, w.uses, w.end)) n w0.at.end w0 w1 refl (all_ok (Calls g f) n w0 w1 r) in
       record { rest = g.0; uses = g.1; end = g.2 }
 
-  pub walks_listed : (stands : Bool) (n : ℕ) (w0 w1 w2 : Walker) → n ≡ (count stands (left w0)).0 → left w1 ≡ (count stands (left w0)).1 → w1.at.end ≡ w0.at.end → uses_of w1 ≡ uses_of w0 → Repeats step n w1 w2 → Walks all (listed none more (one w0.at.end) stands) w0 w2
-  walks_listed stands n w0 w1 w2 en el ee eu r =
-      let g = walks_rows n w1 w2 r in
+  pub walks_rows : (n : ℕ) (w0 w1 : Walker) (r : Result (Unit {0}) AllocError) → RepeatsUpTo (Calls g f) n w0 r w1 → OnOk r (Walks all (rows none more (one w0.at.end) n) w0 w1)
+  walks_rows n w0 w1 (Ok tt) h = rows_walked n w0 w1 h
+  walks_rows n w0 w1 (Err e) h = tt
+
+  pub walks_listed : (stands : Bool) (w0 w2 : Walker) → WalksEach g f stands w0 w2 → Walks all (listed none more (one w0.at.end) stands) w0 w2
+  walks_listed stands w0 w2 h =
+      let n : ℕ = (count stands (left w0)).0 in
+      let g = rows_walked n h.counted w2 h.each in
       record {
-        rest = g.rest ∙ (λ i. (rows none more (one (ee i)) (en i) (el i)).1);
-        uses = g.uses ∙ (λ i. all (rows none more (one (ee i)) (en i) (el i)).0 (eu i));
-        end = g.end ∙ ee;
+        rest = g.rest ∙ (λ i. (rows none more (one (h.end i)) n (h.rest i)).1);
+        uses = g.uses ∙ (λ i. all (rows none more (one (h.end i)) n (h.rest i)).0 (h.uses i));
+        end = g.end ∙ h.end;
       }
 
 -- and over a field of a module, of which each record tells what it declares

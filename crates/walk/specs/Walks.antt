@@ -1,9 +1,14 @@
 -- What a step of the walk leaves.
-use Rattle.std.specs.Prelude.{◌≡◌, ℕ, List, [], ◌∷◌, ◌++◌, map, vec_items}
+use Rattle.std.specs.Prelude.{◌≡◌, ℕ, List, [], ◌∷◌, ◌++◌, map, vec_items, Bool, Ok, Result}
+use Rattle.std.specs.Borrow.{MutBor}
+use Rattle.std.specs.Fn.{Shared}
+use Rattle.std.specs.declared.alloc.AllocError.{AllocError}
 use Rattle.model.specs.Tree.{Text}
 use Rattle.model.specs.Uses.{Use, use', Declared}
 use Rattle.model.specs.Steps.{use_of, declared_of}
 use Rattle.model.specs.declared.uses.Declared.{Declared as DeclaredOf}
+use Rattle.model.specs.Repeats.{Calls, Repeats}
+use Rattle.walk.specs.Total.{count}
 use Rattle.walk.specs.Puts.{Gathered}
 use Rattle.walk.specs.declared.walker.Walker.{Walker}
 
@@ -31,6 +36,14 @@ pub record Noted (p : ℕ) (m s : Text) (before after : Walker) : Type 0 where
   pub rest : left after ≡ left before
   pub uses : uses_of after ≡ uses_of before ++ use' p m s ∷ []
   pub end : after.at.end ≡ before.at.end
+
+-- f may walk each item of a list field, behind its count
+pub record WalksEach {F : Type 0} (g : Shared F (MutBor Walker × Unit {0}) (Result (Unit {0}) AllocError × (MutBor Walker × Unit {0}))) (f : F) (stands : Bool) (before after : Walker) : Type 0 where
+  pub counted : Walker
+  pub rest : left counted ≡ (count stands (left before)).1
+  pub uses : uses_of counted ≡ uses_of before
+  pub end : counted.at.end ≡ before.at.end
+  pub each : Repeats (Calls g f) (count stands (left before)).0 counted (Ok tt) after
 
 abbrev pub gathered : Walker → List DeclaredOf → Gathered
 gathered w ds = (uses_of w, map declared_of ds)

@@ -4,7 +4,6 @@ ghost use Rattle.model.specs.Read.{deepest_allowed};
 ghost use Rattle.walk.specs.Collects.{Collects, DeclaresEach};
 
 use crate::cursor::Cursor;
-use crate::times::times;
 use crate::walker::Walker;
 use model::{DEEPEST, Declared, Fields, File, ModuleField, Use};
 use std::alloc::{AllocError, Global};

@@ -5,7 +5,6 @@ mod collector;
 mod cursor;
 mod headers;
 mod reached;
-mod times;
 mod walker;
 
 pub use collector::{Collected, collect};

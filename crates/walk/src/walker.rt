@@ -6,12 +6,13 @@ ghost use Rattle.model.specs.Tree.{end as no_expr, item as add_expr};
 ghost use Rattle.model.specs.Uses.{class_declared};
 ghost use Rattle.walk.specs.Total.{expr as expr_at, parts as parts_at, rows as rows_at, exprs as exprs_at, any_expr as any_expr_at, pair as pair_at, attribute as attribute_at, argument as argument_at, any_star as any_star_at, arguments as arguments_at, function as function_at, functions as functions_at, attributes as attributes_at, class_over as class_over_at, one_class as class_at, classes as classes_at};
 ghost use Rattle.walk.specs.Puts.{expr_put, exprs_put, each_put, any_put, value_put, annotation_put, pair_put, attribute_put, argument_put, star_put, function_put, class_put, classes_put, function_declared, attribute_declared};
-ghost use Rattle.walk.specs.Walks.{Walks, Tells, Noted};
+ghost use Rattle.walk.specs.Walks.{Walks, WalksEach, Tells, Noted};
 
 use crate::cursor::Cursor;
 use crate::headers::Header;
-use crate::times::times;
-use model::{ClassField, Declared, Expression, Fields, FunctionField, Reference, Use, ValueField};
+use model::{
+    ClassField, Declared, Expression, Fields, FunctionField, Reference, Use, ValueField, times,
+};
 use std::alloc::AllocError;
 
 #[derive(Drop)]
@@ -27,6 +28,19 @@ impl<'a> Walker<'a> {
         let reference = Reference { from, name };
         self.uses.push(Use { place, reference })?;
         Ok(())
+    }
+
+    // A list field: its count, and then as many items, each walked by `item`.
+    fn each<F: Fn(&mut Self) -> Result<(), AllocError>>(
+        &mut self,
+        stands: bool,
+        item: F,
+    ) -> Result<(), AllocError>
+        requires { F.IsAlwaysCallable item }
+        ensures { OnOk result (WalksEach F.Fn item stands self.old self.new) }
+    {
+        let n = self.at.count(stands);
+        times(n, self, item)
     }
 
     #[cycle(exprs)]
@@ -91,8 +105,7 @@ impl<'a> Walker<'a> {
     fn walk_exprs(&mut self, stands: bool, depth: u8) -> Result<(), AllocError>
         ensures { OnOk result (Walks exprs_put (exprs_at self.old.at.end depth stands) self.old self.new) }
     {
-        let n = self.at.count(stands);
-        self.walk_list(n, depth)
+        self.each(stands, |walker| walker.walk_expr(depth))
     }
 
     // A value or a default, which is not collected.
@@ -133,8 +146,7 @@ impl<'a> Walker<'a> {
     fn walk_arguments(&mut self, stands: bool, depth: u8) -> Result<(), AllocError>
         ensures { OnOk result (Walks (each_put argument_put) (arguments_at self.old.at.end depth stands) self.old self.new) }
     {
-        let n = self.at.count(stands);
-        times(n, self, |walker| walker.walk_argument(depth))
+        self.each(stands, |walker| walker.walk_argument(depth))
     }
 
     // A vararg or kwarg: it has no default.
@@ -177,8 +189,7 @@ impl<'a> Walker<'a> {
     fn walk_methods(&mut self, stands: bool, depth: u8) -> Result<(), AllocError>
         ensures { OnOk result (Walks (each_put function_put) (functions_at self.old.at.end depth stands) self.old self.new) }
     {
-        let n = self.at.count(stands);
-        times(n, self, |walker| {
+        self.each(stands, |walker| {
             walker.walk_function(depth)?;
             Ok(())
         })
@@ -187,8 +198,7 @@ impl<'a> Walker<'a> {
     fn walk_attributes(&mut self, stands: bool, depth: u8) -> Result<(), AllocError>
         ensures { OnOk result (Walks (each_put attribute_put) (attributes_at self.old.at.end depth stands) self.old self.new) }
     {
-        let n = self.at.count(stands);
-        times(n, self, |walker| {
+        self.each(stands, |walker| {
             walker.walk_attribute(depth)?;
             Ok(())
         })
@@ -225,10 +235,8 @@ impl<'a> Walker<'a> {
     fn walk_classes(&mut self, stands: bool, depth: u8) -> Result<(), AllocError>
         ensures { OnOk result (Walks classes_put (classes_at self.old.at.end depth stands) self.old self.new) }
     {
-        let n = self.at.count(stands);
-        times(
-            n,
-            self,
+        self.each(
+            stands,
             |walker|
                 ensures { OnOk result (Walks class_put (class_at walker.old.at.end depth) walker.old walker.new) }
             {

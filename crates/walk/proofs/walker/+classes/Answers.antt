@@ -17,4 +17,4 @@ Walker::walk_class-returns t c =
 
 pub Walker::walk_classes-returns : goal.Walker::walk_classes-returns
 Walker::walk_classes-returns t c =
-    made_by c.times.result c.times.ensures (walks_listed no_class add_class (λ end. one_class end c.args.depth) class_put classes_put (λ x. refl) (λ a l x. refl) _ (λ s t x. search rules) c.args.stands c.count-n.result c.args.self.now _ _ c.count-n.ensures.is c.count-n.ensures.rest c.count-n.ensures.end refl)
+    made_by c.each.result c.each.ensures (walks_listed no_class add_class (λ end. one_class end c.args.depth) class_put classes_put (λ x. refl) (λ a l x. refl) _ _ (λ s t x. search rules) c.args.stands c.args.self.now _)

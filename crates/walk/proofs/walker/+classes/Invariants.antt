@@ -4,8 +4,8 @@ use Rattle.walk.proofs.walker.+classes.Given as goal
 abbrev pub decreases-Walker::walk_class : goal.decreases-Walker::walk_class
 decreases-Walker::walk_class l = 4 * l.depth
 
-abbrev pub decreases-Walker::walk_classes-times : goal.decreases-Walker::walk_classes-times
-decreases-Walker::walk_classes-times l = 4 * l.depth + 1
+abbrev pub decreases-Walker::walk_classes-each : goal.decreases-Walker::walk_classes-each
+decreases-Walker::walk_classes-each l = 4 * l.depth + 1
 
 abbrev pub decreases-Walker::walk_classes : goal.decreases-Walker::walk_classes
 decreases-Walker::walk_classes l = 4 * l.depth + 2

@@ -19,7 +19,7 @@ Walker::walk_expr-returns t c =
 
 pub Walker::walk_list-returns : goal.Walker::walk_list-returns
 Walker::walk_list-returns t c =
-    made_by c.times.result c.times.ensures (walks_rows end item (λ end. expr end c.args.depth) expr_put exprs_put (λ x. refl) (λ a l x. refl) _ (λ s t x. search rules) c.args.n c.args.self.now _)
+    walks_rows end item (λ end. expr end c.args.depth) expr_put exprs_put (λ x. refl) (λ a l x. refl) _ _ (λ s t x. search rules) c.args.n c.args.self.now _ c.times.result c.times.ensures
 
 pub Walker::walk_parts-returns-in-Name : goal.Walker::walk_parts-returns-in-Name
 Walker::walk_parts-returns-in-Name t c =

@@ -7,4 +7,4 @@ use Rattle.walk.proofs.walker.Walker.walk_methods.Goals as goal
 
 pub returns : goal.returns
 returns c =
-    made_by c.times.result c.times.ensures (walks_listed [] ◌∷◌ (λ end. function end c.args.depth) function_put (each_put function_put) (λ x. refl) (λ a l x. refl) _ (λ s t x. search rules) c.args.stands c.count-n.result c.args.self.now _ _ c.count-n.ensures.is c.count-n.ensures.rest c.count-n.ensures.end refl)
+    made_by c.each.result c.each.ensures (walks_listed [] ◌∷◌ (λ end. function end c.args.depth) function_put (each_put function_put) (λ x. refl) (λ a l x. refl) _ _ (λ s t x. search rules) c.args.stands c.args.self.now _)
