@@ -1,16 +1,13 @@
 -- What a walk finds over each kind of entry is what the rules say of it.
-use Rattle.std.proofs.Common.{◌≡◌, ℕ, ◌&&◌, List, map, IfOk, Option, Ordering, Result, Bor, refl, ◌∙◌}
+use Rattle.std.proofs.Common.{◌≡◌, ℕ, ◌&&◌, List, map, IfOk, Option, Result, refl, ◌∙◌}
 use Rattle.std.proofs.lemmas.Result.{IfOk-weaker}
-use Rattle.std.specs.Ordering.{eq_by_cmp, ordering_then, nat_cmp}
-use Rattle.std.specs.Option.{option_cmp}
-use Rattle.std.specs.Cmp.Lexicographic.{slice_cmp}
+use Rattle.std.specs.Ordering.{eq_by_cmp}
 use Rattle.model.specs.Rules.{least}
 use Rattle.model.specs.Limits.{repeats, over, same_text_of, same_held, same_reference, held_key, use_key, declared_key, distinct_allowed, repeated_siblings, surplus_uses, surplus_declared_of}
 use Rattle.model.specs.Steps.{held_of, use_of, declared_of}
 use Rattle.model.specs.declared.files.Listed.{Listed}
 use Rattle.model.specs.declared.uses.Use.{Use}
 use Rattle.model.specs.declared.uses.Declared.{Declared}
-use Rattle.model.specs.declared.uses.Reference.{Reference}
 use Rattle.limits.specs.Entries.{keyed, text_cmp, reference_cmp, sibling_cmp}
 use Rattle.limits.proofs.Same.{then_ties, text_ties, holder_ties, repeats_fit, over_fit}
 
