@@ -1,5 +1,5 @@
 -- What so many calls lead to, and how the reader goes on by them.
-use Rattle.std.proofs.Common.{◌≡◌, ℕ, zero, suc, ◌+◌, ◌-◌, ◌<◌, ◌≤◌, List, Ok, Err, IsErr, IsErrAnd, Result, refl, sym, ap, ◌∙◌, inl, inr, arith, MutBor}
+use Rattle.std.proofs.Common.{◌≡◌, ℕ, zero, suc, ◌+◌, ◌-◌, ◌<◌, List, Ok, Err, IsErr, IsErrAnd, Result, refl, sym, ap, ◌∙◌, inl, inr, arith, MutBor}
 use Rattle.std.proofs.lemmas.Bool.{false≢true}
 use Rattle.std.proofs.lemmas.Result.{err_from_is_err_and}
 use Rattle.std.specs.Fn.{Shared}
@@ -14,9 +14,6 @@ use Rattle.model.proofs.Going.{goes_by}
 
 pub called : {F S R : Type 0} (g : Shared F (MutBor S × Unit {0}) (R × (MutBor S × Unit {0}))) (f : F) (x y : MutBor S) (r : R) → g.post f (x, tt) (r, (y, tt)) → Calls g f x.now r y.now
 called g f x y r h = record { shown = x; shows = refl; left = y; met = h; leaves = refl }
-
-pub repeats_none : {S E : Type 0} (call : S → Result (Unit {0}) E → S → Type 0) (n i : ℕ) (s : S) → n ≤ i → Repeats call (n - i) s (Ok tt) s
-repeats_none call n i s h = let e : n - i ≡ 0 = omega arith in rw e (refl, refl)
 
 pub repeats_more : {S E : Type 0} (call : S → Result (Unit {0}) E → S → Type 0) (n i : ℕ) (s m t : S) (r : Result (Unit {0}) E) → i < n → call s (Ok tt) m → Repeats call (n - (i + 1)) m r t → Repeats call (n - i) s r t
 repeats_more call n i s m t r h one more = let e : n - i ≡ suc (n - (i + 1)) = omega arith in rw e (inr (m, one, more))

@@ -1,5 +1,5 @@
 use Rattle.std.proofs.Common.{arith}
-use Rattle.model.proofs.Repeating.{called, repeats_none, repeats_more, repeats_fails}
+use Rattle.model.proofs.Repeating.{called, repeats_more, repeats_fails}
 use Rattle.model.proofs.repeat.times.Goals as goal
 
 pub returns-in_err-step : goal.returns-in_err-step
@@ -7,6 +7,3 @@ returns-in_err-step g c = c.loop.invariant _ _ (repeats_fails _ c.args.n c.loop.
 
 pub loop-preserved : goal.loop-preserved
 loop-preserved g c = λ r last rest. c.loop.invariant r last (repeats_more _ c.args.n c.loop.counter _ _ last r (omega arith) (called g.F.Fn c.args.step _ _ _ c.in_ok-step.ensures) rest)
-
-pub returns : goal.returns
-returns g c = c.loop.invariant _ _ (repeats_none _ c.args.n c.loop.counter _ (omega arith))
