@@ -28,7 +28,8 @@ fn declare<'a>(
     Ok(binder)
 }
 
-// The names of a file that declares and refers to these, the references in their order.
+// The names of a file that declares and refers to these, the references in their order. The own module and what it declares come
+// from different calls, so they are two arguments.
 pub fn bind_names<'a>(
     heap: Global,
     own: &'a [u8],

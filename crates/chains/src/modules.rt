@@ -47,6 +47,7 @@ impl<'a> Loaded<'a> {
 }
 
 /// Whether a file's module is a package: it is the root, or has submodules.
+// Model and file are two arguments, as at `walk::collect`.
 pub fn is_package(model: &[u8], file: File) -> bool
     ensures { result ≡ package_in model.now file }
 {

@@ -32,7 +32,7 @@ impl fmt::Display for Verdict {
     }
 }
 
-// Checks each file; one without an answer keeps none of those behind it from being checked.
+// Checks each file; one without an answer keeps none of those behind it from being checked, but a failed write stops.
 pub(crate) fn files(rt: &HostRuntime, names: Args) -> Result<(), Undone> {
     let mut done = Ok(());
     for name in names {

@@ -37,6 +37,7 @@ pub(crate) enum Undone {
     Io(io::Error),
 }
 
+// By hand: a derive would want the crate thiserror and words for each case, for this one impl.
 impl From<io::Error> for Undone {
     fn from(e: io::Error) -> Undone {
         Undone::Io(e)

@@ -24,7 +24,7 @@ impl fmt::Display for Failure {
     }
 }
 
-// What there is to say of a fault. The fault is another crate's type, which can have no Display here.
+// What there is to say of a fault: words and no newtype with Display, since they stand within two longer texts.
 pub(crate) fn cause(fault: &Fault) -> &'static str
     ensures { result.now ≡ cause_of (told fault.now) }
 {

@@ -57,7 +57,7 @@ impl<'a> Cursor<'a> {
     {
         let high = self.byte()?;
         let low = self.byte()?;
-        Ok(u16::from(high) * 256 + u16::from(low))
+        Ok(u16::from_be_bytes([high, low]))
     }
 
     // A text: its length, and as many bytes.

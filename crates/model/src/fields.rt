@@ -132,7 +132,7 @@ impl<F: Field> Fields<F> {
         }
     }
 
-    // The map itself.
+    // The map itself, for a caller that wants the number.
     pub fn map(&self) -> u16
         ensures { result ≡ map_of self.now }
     {
@@ -140,7 +140,7 @@ impl<F: Field> Fields<F> {
         *map
     }
 
-    // Whether this field stands.
+    // Whether this field stands: by division, as the format's definition of a bit has it.
     pub fn has(&self, field: F) -> bool
         ensures { result ≡ bit_of (map_of self.now) (F.value field) }
     {

@@ -17,7 +17,7 @@ pub struct File {
 }
 
 // A module as the reader lists it: its file, and its name, a part of the model.
-#[derive(Clone, Copy, Debug)]
+#[derive(Clone, Copy, Debug, PartialEq, Eq)]
 pub struct Listed<'a> {
     pub file: File,
     pub name: &'a [u8],
@@ -42,7 +42,7 @@ impl<'a> Listing<'a> {
             file: File {
                 place,
                 holder,
-                // a number until `settle` knows it, so that those who read a finished list ask for none
+                // 0 until `settle` knows it; no Option, since each entry of a finished list has it
                 own: 0,
             },
             name,

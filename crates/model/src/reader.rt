@@ -97,6 +97,8 @@ impl<'a> Reader<'a> {
         )
     }
 
+    // Flag and depth are two parameters: the flag is another at each call and the depth another at each level, so a struct of them
+    // would be built for every call.
     fn optional(&mut self, stands: bool, depth: u8) -> Result<(), Layout>
         ensures { Goes self.old self.new result (audit_any (audit_expr self.old.at.end depth) stands) }
     {

@@ -8,7 +8,7 @@ use references::{ascending, first_use, undeclared_use};
 use std::alloc::Global;
 use walk::collect;
 
-// The names of this file, whose own module is called `own`.
+// The names of this file, whose own module is called `own`. Model and file are two arguments, as at `walk::collect`.
 pub fn resolve<'a>(
     heap: Global,
     model: &'a [u8],
@@ -25,6 +25,7 @@ pub fn resolve<'a>(
         return Err(Fault::Undeclared(place));
     }
     let references = ascending(heap, uses)?;
+    // no `?`, since the place of a fault wants the uses
     match bind_names(heap, own, declared, references.as_slice()) {
         Ok(names) => Ok(names),
         Err(Unbound::Exhausted(reference)) => {

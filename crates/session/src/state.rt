@@ -7,8 +7,7 @@ use model::File;
 use std::alloc::Global;
 
 // A session and its model: the packed bytes, none before the first load (no model is empty, so none needs no Option, and the
-// clauses of the calls speak of the bytes), and the list of files, by which file K is reached
-// without a walk over those before it.
+// clauses of the calls speak of the bytes), and the list of files, by which file K is reached without a walk over those before it.
 #[derive(Drop)]
 pub struct Session {
     pub(crate) heap: Global,

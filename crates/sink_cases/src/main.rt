@@ -7,115 +7,108 @@ use sink::{BufferSink, ComparingSink, Sink, offer_all};
 use std::io;
 use std::str::from_utf8;
 
-// Lines for a buffer of that size.
-struct Buffering<'a> {
+// Lines for a sink that holds this: a buffer of that size, or a text to compare with.
+struct Case<'a, T> {
     name: &'a str,
-    size: usize,
+    holds: T,
     lines: &'a [&'a str],
 }
 
-// Lines for a sink that compares with that text.
-struct Comparing<'a> {
-    name: &'a str,
-    expected: &'a str,
-    lines: &'a [&'a str],
-}
-
-const ONE_BY_ONE: &[Buffering<'static>] = &[
-    Buffering {
+const ONE_BY_ONE: &[Case<'static, usize>] = &[
+    Case {
         name: "exactly full",
-        size: 6,
+        holds: 6,
         lines: &["ab", "cd", ""],
     },
-    Buffering {
+    Case {
         name: "one byte short, then a shorter line",
-        size: 5,
+        holds: 5,
         lines: &["ab", "cd", "c", ""],
     },
-    Buffering {
+    Case {
         name: "empty lines",
-        size: 2,
+        holds: 2,
         lines: &["", "", ""],
     },
-    Buffering {
+    Case {
         name: "size 0",
-        size: 0,
+        holds: 0,
         lines: &["", "a"],
     },
-    Buffering {
+    Case {
         name: "a newline in a line",
-        size: 9,
+        holds: 9,
         lines: &["a\nb", "\n", "ab\n", "ab"],
     },
-    Buffering {
+    Case {
         name: "more than any memory",
-        size: usize::MAX,
+        holds: usize::MAX,
         lines: &[""],
     },
 ];
 
-const COMPARISONS: &[Comparing<'static>] = &[
-    Comparing {
+const COMPARISONS: &[Case<'static, &'static str>] = &[
+    Case {
         name: "right lines",
-        expected: "ab\n\ncd\n",
+        holds: "ab\n\ncd\n",
         lines: &["ab", "", "cd", ""],
     },
-    Comparing {
+    Case {
         name: "not all of them",
-        expected: "ab\n\ncd\n",
+        holds: "ab\n\ncd\n",
         lines: &["ab", ""],
     },
-    Comparing {
+    Case {
         name: "wrong lines, then right ones",
-        expected: "ab\ncd\n",
+        holds: "ab\ncd\n",
         lines: &["cd", "a", "abc", "", "ab", "ab", "c", "cd"],
     },
-    Comparing {
+    Case {
         name: "no last newline",
-        expected: "ab\ncd",
+        holds: "ab\ncd",
         lines: &["ab", "cd", "c", ""],
     },
-    Comparing {
+    Case {
         name: "no newline at all",
-        expected: "ab",
+        holds: "ab",
         lines: &["ab", ""],
     },
-    Comparing {
+    Case {
         name: "a newline in a line",
-        expected: "a\nb\n",
+        holds: "a\nb\n",
         lines: &["a\nb", "a\n", "a", "b"],
     },
-    Comparing {
+    Case {
         name: "only a newline",
-        expected: "\n",
+        holds: "\n",
         lines: &["\n", "", ""],
     },
-    Comparing {
+    Case {
         name: "an empty text",
-        expected: "",
+        holds: "",
         lines: &["", "a"],
     },
 ];
 
-const RUNS: &[Buffering<'static>] = &[
-    Buffering {
+const RUNS: &[Case<'static, usize>] = &[
+    Case {
         name: "a run that fits",
-        size: 4,
+        holds: 4,
         lines: &["a", "b"],
     },
-    Buffering {
+    Case {
         name: "a run one line too long",
-        size: 4,
+        holds: 4,
         lines: &["a", "b", "c"],
     },
-    Buffering {
+    Case {
         name: "a run that goes no further behind a refused line",
-        size: 6,
+        holds: 6,
         lines: &["a", "\n", "b"],
     },
-    Buffering {
+    Case {
         name: "the empty run",
-        size: 0,
+        holds: 0,
         lines: &[],
     },
 ];
@@ -134,9 +127,9 @@ fn main(rt: HostRuntime) -> io::Result<()> {
 }
 
 // To a sink into a buffer, lines one by one.
-fn offer_to_buffer(rt: &HostRuntime, case: &Buffering) -> io::Result<()> {
-    print!(rt; "{}: buffer of {}:", case.name, case.size)?;
-    let Ok(mut sink) = BufferSink::new(rt.alloc(), case.size) else {
+fn offer_to_buffer(rt: &HostRuntime, case: &Case<usize>) -> io::Result<()> {
+    print!(rt; "{}: buffer of {}:", case.name, case.holds)?;
+    let Ok(mut sink) = BufferSink::new(rt.alloc(), case.holds) else {
         return println!(rt; " no memory");
     };
     offer_each(rt, &mut sink, case.lines)?;
@@ -144,9 +137,9 @@ fn offer_to_buffer(rt: &HostRuntime, case: &Buffering) -> io::Result<()> {
 }
 
 // To a sink that compares, lines one by one.
-fn compare(rt: &HostRuntime, case: &Comparing) -> io::Result<()> {
-    print!(rt; "{}: comparing with {:?}:", case.name, case.expected)?;
-    let mut sink = ComparingSink::new(case.expected.as_bytes());
+fn compare(rt: &HostRuntime, case: &Case<&str>) -> io::Result<()> {
+    print!(rt; "{}: comparing with {:?}:", case.name, case.holds)?;
+    let mut sink = ComparingSink::new(case.holds.as_bytes());
     offer_each(rt, &mut sink, case.lines)?;
     let matched = sink.matched();
     let complete = sink.is_complete();
@@ -154,9 +147,9 @@ fn compare(rt: &HostRuntime, case: &Comparing) -> io::Result<()> {
 }
 
 // To a sink into a buffer, a run.
-fn offer_run(rt: &HostRuntime, case: &Buffering) -> io::Result<()> {
-    print!(rt; "{}: buffer of {}:", case.name, case.size)?;
-    let mut sink = BufferSink::new(rt.alloc(), case.size)?;
+fn offer_run(rt: &HostRuntime, case: &Case<usize>) -> io::Result<()> {
+    print!(rt; "{}: buffer of {}:", case.name, case.holds)?;
+    let mut sink = BufferSink::new(rt.alloc(), case.holds)?;
     let run = case
         .lines
         .iter()

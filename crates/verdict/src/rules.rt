@@ -25,7 +25,7 @@ fn root_named(modules: &[Listed<'_>]) -> Option<usize>
     }
 }
 
-// The least place at which this file declares or collects too much.
+// The least place at which this file declares or collects too much. Model and file are two arguments, as at `walk::collect`.
 fn file_surplus(heap: Global, model: &[u8], file: File) -> Result<Option<usize>, AllocError>
     ensures { IfOk result (λ p. p ≡ least (own_surplus (own_in model.now file))) }
 {

@@ -54,7 +54,7 @@ impl<'a> Cursor<'a> {
     {
         let high = self.byte();
         let low = self.byte();
-        u16::from(high) * 256 + u16::from(low)
+        u16::from_be_bytes([high, low])
     }
 
     // A record's map, whatever its bits.

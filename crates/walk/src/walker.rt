@@ -30,7 +30,8 @@ impl<'a> Walker<'a> {
         Ok(())
     }
 
-    // A list field: its count, and then as many items, each walked by `item`.
+    // A list field: its count, and then as many items, each walked by `item`. The reader's `each` may fail at its count and says
+    // where; this one cannot, as its cursor cannot.
     fn each<F: Fn(&mut Self) -> Result<(), AllocError>>(
         &mut self,
         stands: bool,
@@ -101,6 +102,8 @@ impl<'a> Walker<'a> {
         )
     }
 
+    // Flag and depth are two parameters: the flag is another at each call and the depth another at each level, so a struct of them
+    // would be built for every call.
     // A list field of expressions: bases or decorators.
     fn walk_exprs(&mut self, stands: bool, depth: u8) -> Result<(), AllocError>
         ensures { OnOk result (Walks exprs_put (exprs_at self.old.at.end depth stands) self.old self.new) }
