@@ -28,18 +28,13 @@ LoadingBytes bs before after (Ok (Count files)) = ⊥
 LoadingBytes bs before after (Ok Unknown) = ⊥
 LoadingBytes bs before after (Err f) = Tells (verdict bs) (told f) × (after ≡ before)
 
--- what is refused, by a number and a place, are bytes; memory may lack for any digits
-abbrev pub RefusesBytes : Option (ℕ × ℕ) → List ℕ → Type 0
-RefusesBytes None digits = Unit {0}
-RefusesBytes (Some x) digits = is_some (hex_bytes digits) ≡ true
-
--- the same of digits, which are unknown where they are no bytes
+-- The same of digits, which are unknown where they are no bytes. Only bytes are refused, and memory lacks for bytes alone.
 abbrev pub Loading : List ℕ → List ℕ → List ℕ → Result Answer Fault → Type 0
 Loading digits before after (Ok Loaded) =
     (is_some (hex_bytes digits) ≡ true) × LoadingBytes (bytes_of (hex_bytes digits)) before after (Ok Loaded)
 Loading digits before after (Ok (Count files)) = ⊥
 Loading digits before after (Ok Unknown) = (hex_bytes digits ≡ None) × (after ≡ before)
-Loading digits before after (Err f) = RefusesBytes (told f) digits × LoadingBytes (bytes_of (hex_bytes digits)) before after (Err f)
+Loading digits before after (Err f) = (is_some (hex_bytes digits) ≡ true) × LoadingBytes (bytes_of (hex_bytes digits)) before after (Err f)
 
 -- what a count answers of a session that holds these bytes
 abbrev pub counted : Result ℕ Fault → Result Answer Fault

@@ -1,5 +1,5 @@
 // Bytes that are written as pairs of hexadecimal digits.
-ghost use Rattle.std.specs.Prelude.{◌≡◌, IfOk, IfErr, vec_items};
+ghost use Rattle.std.specs.Prelude.{◌≡◌, true, IfOk, IfErr, OnErr, is_some, vec_items};
 ghost use Rattle.std.specs.Option.{option_map};
 ghost use Rattle.session.specs.declared.fault.Fault.TheVariants.{Memory};
 ghost use Rattle.commands.specs.Hex.{hex_bytes};
@@ -8,11 +8,16 @@ use hex::FromHexError;
 use session::Fault;
 use std::alloc::Global;
 
-// The bytes that the text writes; none where it is no row of pairs of digits.
+// The bytes that the text writes; none where it is no row of pairs of digits, which is seen before any memory is asked for.
 pub(crate) fn unhex(heap: Global, text: &[u8]) -> Result<Option<Vec<u8>>, Fault>
     ensures value { IfOk result (λ o. option_map vec_items o ≡ hex_bytes text.now) }
     ensures err { IfErr result (λ e. e ≡ Memory) }
+    ensures digits { OnErr result (is_some (hex_bytes text.now) ≡ true) }
 {
+    // the library asks for memory before it looks at the digits
+    if !text.iter().all(u8::is_ascii_hexdigit) {
+        return Ok(None);
+    }
     match hex::decode(heap, text) {
         Ok(bytes) => Ok(Some(bytes)),
         // of the library's errors one is want of memory, and the others say that these are no pairs of digits

@@ -57,9 +57,9 @@ impl<'a> Listing<'a> {
         self.modules.len()
     }
 
-    // The module with this number learns where its own declarations start.
+    // The module with this number learns where its own declarations start. Where no module has the number, all stay as they are.
     pub(crate) fn settle(&mut self, number: usize, own: usize)
-        ensures { (d : _) → number < length self.old.modules.items → self.new.modules.items ≡ slice_set self.old.modules.items number (with_own own (get_or self.old.modules.items number d)) }
+        ensures { (d : _) → self.new.modules.items ≡ slice_set self.old.modules.items number (with_own own (get_or self.old.modules.items number d)) }
     {
         if number < self.modules.len() {
             self.modules[number].file.own = own;

@@ -4,7 +4,7 @@
 #![tactic(auto)]
 
 use chains::Loaded;
-use naming::next_name;
+use naming::{append_next, next_name};
 use std::str::from_utf8;
 use std::{fs, io};
 use verdict::judge_model;
@@ -27,7 +27,8 @@ fn main(rt: HostRuntime) -> io::Result<()> {
     for name in NAMES {
         follow(&rt, name)?;
     }
-    modules(&rt, "payroll.bin")
+    modules(&rt, "payroll.bin")?;
+    gather(&rt)
 }
 
 // The name that follows this one.
@@ -37,6 +38,17 @@ fn follow(rt: &HostRuntime, name: &str) -> io::Result<()> {
         Some(next) => show(rt, next.as_slice()),
         None => println!(rt; "none"),
     }
+}
+
+// The names that follow all of these, in one buffer.
+fn gather(rt: &HostRuntime) -> io::Result<()> {
+    let mut all = Vec::new(rt.alloc());
+    for name in NAMES {
+        all.push(b' ')?;
+        append_next(rt.alloc(), &mut all, name.as_bytes())?;
+    }
+    print!(rt; "in one buffer:")?;
+    show(rt, all.as_slice())
 }
 
 // The dotted name of each file's module.

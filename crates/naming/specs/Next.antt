@@ -1,5 +1,6 @@
 -- The name that follows a name: its front, and the number that it ends in plus 1.
-use Rattle.std.specs.Prelude.{ℕ, zero, suc, ◌+◌, ◌-◌, cond, List, [], ◌∷◌, ◌++◌, length, take, drop, Some, None, decimal, Option, ◌==◌, nat_lt}
+use Rattle.std.specs.Prelude.{◌≡◌, ℕ, zero, suc, ◌+◌, ◌-◌, Bool, cond, List, [], ◌∷◌, ◌++◌, length, take, drop, is_some, Some, None, decimal, Option, ◌==◌, nat_lt}
+use Rattle.std.specs.Option.{unwrap_or}
 use Rattle.std.specs.Str.Parse.{digits_value}
 use Rattle.std.specs.Char.{is_ascii_digit}
 use Rattle.std.specs.List.{suffix_len}
@@ -32,3 +33,7 @@ following (Some w) = next_name w
 abbrev pub proposal : List ℕ → ℕ → Option (List ℕ)
 proposal root zero = Some root
 proposal root (suc n) = following (proposal root n)
+
+-- the bytes before have grown by the name that is there, and `there` says whether one is
+abbrev pub Appended : Option (List ℕ) → Bool → List ℕ → List ℕ → Type 0
+Appended o there before after = (there ≡ is_some o) × (after ≡ before ++ unwrap_or o [])

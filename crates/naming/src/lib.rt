@@ -5,4 +5,4 @@ mod laws;
 mod next;
 
 pub use laws::{cases_hold, proposals_differ, proposals_shaped};
-pub use next::{next_name, split_number};
+pub use next::{append_next, next_name, split_number};

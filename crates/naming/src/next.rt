@@ -2,7 +2,7 @@
 ghost use Rattle.std.specs.Prelude.{◌≡◌, IfOk};
 ghost use Rattle.std.specs.Option.{option_map};
 ghost use Rattle.std.specs.Str.Parse.{AllDigits};
-ghost use Rattle.naming.specs.Next.{counted, front, next_name, number};
+ghost use Rattle.naming.specs.Next.{Appended, counted, front, next_name, number};
 
 use std::alloc::{AllocError, Global};
 
@@ -47,4 +47,16 @@ pub fn next_name(heap: Global, name: &[u8]) -> Result<Option<Vec<u8>>, AllocErro
     next.extend_from_slice(&name[..at])?;
     next.extend_from_slice(digits.as_bytes())?;
     Ok(Some(next))
+}
+
+// Appends the next name to `out`, or answers false and leaves `out` as it is where there is none. It is for a caller that gathers
+// names in one buffer.
+pub fn append_next(heap: Global, out: &mut Vec<u8>, name: &[u8]) -> Result<bool, AllocError>
+    ensures { IfOk result (λ b. Appended (next_name name.now) b out.old.items out.new.items) }
+{
+    let Some(next) = next_name(heap, name)? else {
+        return Ok(false);
+    };
+    out.extend_from_slice(next.as_slice())?;
+    Ok(true)
 }

@@ -5,7 +5,7 @@ use Rattle.std.specs.Cmp.{IsTotalOrder}
 use Rattle.std.specs.Ordering.{eq_by_cmp, is_eq}
 use Rattle.std.specs.List.{AllByRecursion, list_any}
 use Rattle.std.specs.List.Sorted.{IsStrictlySortedBy}
-use Rattle.std.specs.BTreeSet.{IsFromIterResult, keys}
+use Rattle.std.specs.BTreeSet.{InsertsAll, IsEmpty, IsFromIterResult, keys}
 use Rattle.model.specs.Limits.{occurs, same_reference, same_text_of}
 use Rattle.model.specs.Steps.{use_of, declared_of}
 use Rattle.model.specs.declared.uses.Use.{Use as UseOf}
@@ -15,6 +15,11 @@ use Rattle.references.specs.References.{Reference, order, pair_of, reference_of,
 use Rattle.references.specs.Kept.{Keeps, Names, text_cmp, by_bytes, reference_cmp, by_texts}
 use Rattle.references.proofs.Ties.{order_ties, text_ties}
 use Rattle.references.proofs.Listed.{ascends-sorted, occurs-sorted, one_list}
+
+module _ {K : Type 0} (R : K → K → Ordering) where
+  -- a set that was empty, and got these
+  pub from_empty : (ks : List K) (none s : BTreeSet K) → IsEmpty none → InsertsAll R none ks s → IsFromIterResult R ks s
+  from_empty ks none s empty h = (λ q. h.0 q ∙ ap (λ xs. list_any (λ k. is_eq (R q k)) xs || list_any (λ k. is_eq (R q k)) ks) empty, h.1)
 
 module _ {K B : Type 0} {R : K → K → Ordering} (o : IsTotalOrder R) (f : K → B) (e : B → B → Bool) (agree : (x y : K) → eq_by_cmp R x y ≡ e (f x) (f y)) where
   found : (ks : List K) (q : K) → list_any (λ k. is_eq (R q k)) ks ≡ occurs e (f q) (map f ks)

@@ -34,8 +34,8 @@ pub fn first_use(uses: &[Use<'_>], reference: Reference<'_>) -> Option<usize>
 fn is_undeclared(own: &[u8], names: &BTreeSet<&[u8]>, u: &Use<'_>) -> bool
     ensures { (ns : List (List ℕ)) → Names ns names.now → result ≡ lacks own.now ns (use_of u.now) }
 {
-    let (root, _) = split_root(u.reference.name);
-    u.reference.from == own && !names.contains(root)
+    // the root is sought last, so that a use of another module costs no walk over its name
+    u.reference.from == own && !names.contains(split_root(u.reference.name).0)
 }
 
 /// The least place of a use of a name of the own module, called `own`, that is not declared.
@@ -47,7 +47,9 @@ pub fn undeclared_use<'a>(
 ) -> Result<Option<usize>, AllocError>
     ensures { IfOk result (λ p. p ≡ least (undeclared own.now (map declared_of declared.now) (map use_of uses.now))) }
 {
-    let names: BTreeSet<&[u8]> = declared.iter().map(|d| d.name).collect(heap)?;
+    // by `extend`, since `collect` would list every declaration before it drops the names that come again
+    let mut names = BTreeSet::new(heap);
+    names.extend(declared.iter().map(|d| d.name))?;
     Ok(
         uses.iter()
             .filter(|u| is_undeclared(own, &names, u))

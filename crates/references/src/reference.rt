@@ -12,6 +12,8 @@ use std::collections::BTreeSet;
 pub fn ascending<'a>(heap: Global, uses: &[Use<'a>]) -> Result<Vec<Reference<'a>>, AllocError>
     ensures { IfOk result (λ v. map pair_of v.items ≡ references (map use_of uses.now)) }
 {
-    let set: BTreeSet<Reference<'a>> = uses.iter().map(|u| u.reference).collect(heap)?;
+    // by `extend`, since `collect` would list every use before it drops those that come again
+    let mut set = BTreeSet::new(heap);
+    set.extend(uses.iter().map(|u| u.reference))?;
     set.into_iter().collect(heap)
 }

@@ -14,6 +14,10 @@ use crate::plain::is_plain;
 fn begins_line(text: &[u8], line: &[u8]) -> bool
     ensures { Decides result (Matching text.now (line.now ∷ [])) }
 {
+    // looked at first, so that a line that is to end elsewhere is not walked over
+    if text.get(line.len()) != Some(&b'\n') {
+        return false;
+    }
     match text.strip_prefix(line) {
         Some([b'\n', ..]) => is_plain(line),
         _ => false,

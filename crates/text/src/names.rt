@@ -73,7 +73,8 @@ fn is_spelled(s: &[u8]) -> bool
 fn is_keyword(s: &[u8]) -> bool
     ensures { result ≡ keyword s.now }
 {
-    KEYWORDS.contains(&s)
+    // by `any`, which is inlined: `contains` is a call for each word, and each name of a model comes here
+    KEYWORDS.iter().any(|word| *word == s)
 }
 
 /// A Python identifier of ASCII letters, digits and `_`: 1 to 64 bytes that start with no digit and are no keyword.

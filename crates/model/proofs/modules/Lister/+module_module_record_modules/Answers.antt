@@ -19,5 +19,5 @@ modules-loop-preserved t c =
 
 pub module_record-returns : goal.module_record-returns
 module_record-returns t c =
-    let s = settled c.text.new.self.end c.args.depth c.place-place.result c.place-own.result c.next-number.result c.args.holder c.in_ok-name.name.now c.has.result c.text.new.self c.modules.new.self.reader.at c.name.new.self c.modules.new.self.reader.found c.args.self.now.list c.open.new.self c.modules.new.self.list c.settle.new.self c.next-number.ensures c.in_ok-open.ensures c.in_ok-modules.ensures c.settle.ensures in
+    let s = settled c.text.new.self.end c.args.depth c.place-place.result c.place-own.result c.next-number.result c.args.holder c.in_ok-name.name.now c.has.result c.text.new.self c.modules.new.self.reader.at c.name.new.self c.modules.new.self.reader.found c.args.self.now.list c.open.new.self c.modules.new.self.list c.settle.new.self c.next-number.ensures c.in_ok-open.ensures c.in_ok-modules.ensures (λ x l. c.settle.ensures x) in
     search rules
