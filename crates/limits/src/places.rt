@@ -1,7 +1,7 @@
 // Places at which keys repeat, or are too many.
-ghost use Rattle.std.specs.Prelude.{◌≡◌, map, IfOk};
+ghost use Rattle.std.specs.Prelude.{◌≡◌, Some, map, IfOk};
 ghost use Rattle.std.specs.Ordering.{eq_by_cmp};
-ghost use Rattle.model.specs.Rules.{least};
+ghost use Rattle.model.specs.Rules.{least, soonest as soonest_of};
 ghost use Rattle.model.specs.Limits.{repeats, over, distinct_allowed};
 ghost use Rattle.limits.specs.Entries.{keyed};
 
@@ -12,6 +12,13 @@ use std::collections::BTreeSet;
 
 // So many different keys are allowed.
 const LIMIT: usize = 512;
+
+// The least place so far, with one more noted.
+fn noted(least: Option<usize>, place: usize) -> Option<usize>
+    ensures { result ≡ soonest_of least (Some place) }
+{
+    sooner(least, Some(place))
+}
 
 // The least place of an entry whose key came before. The entries need not come by their places, so the loop goes on after a find.
 pub(crate) fn least_repeat<E: Entry>(
@@ -24,7 +31,7 @@ pub(crate) fn least_repeat<E: Entry>(
     let mut repeat = None;
     for e in entries {
         if !seen.insert(e.key())? {
-            repeat = sooner(repeat, Some(e.place()));
+            repeat = noted(repeat, e.place());
         }
     }
     Ok(repeat)
@@ -41,13 +48,15 @@ pub(crate) fn least_surplus<E: Entry>(
     let mut surplus = None;
     for e in entries {
         // To insert moves up to as many keys as the set has, so one with too many takes in no more.
-        let has_room = seen.len() <= LIMIT;
-        if has_room {
-            seen.insert(e.key())?;
+        let is_full = seen.len() > LIMIT;
+        if is_full {
+            surplus = noted(surplus, e.place());
+            continue;
         }
+        seen.insert(e.key())?;
         let too_many = seen.len() > LIMIT;
         if too_many {
-            surplus = sooner(surplus, Some(e.place()));
+            surplus = noted(surplus, e.place());
         }
     }
     Ok(surplus)

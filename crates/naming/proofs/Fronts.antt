@@ -10,6 +10,9 @@ use Rattle.std.proofs.lemmas.Str.Parse.{digit_at, numerals_by_value, tells_by_in
 use Rattle.std.proofs.lemmas.Bool.{and_from, and_parts, cases_lt, false≢true, le-leb, leb-true}
 use Rattle.naming.specs.Next.{front}
 
+pub digits_within : (name : List ℕ) → suffix_len is_ascii_digit name ≤ length name
+digits_within name = suffix_len-le-length is_ascii_digit name
+
 pub front_le : (name : List ℕ) → front name ≤ length name
 unfolding front
 front_le name = omega arith

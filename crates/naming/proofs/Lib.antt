@@ -1,3 +1,4 @@
+pub mod Appends
 pub mod Nexts
 pub mod Fronts
 pub mod Proposed

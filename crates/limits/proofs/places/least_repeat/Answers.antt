@@ -17,7 +17,7 @@ loop-e-preserved g c =
     let came = map f (take c.loop-e.e-index c.args.entries.now) in
     let place = g.E.Entry.place_of c.e-item.result in
     let noted : c.if-not-branch.repeat ≡ with_place (not c.in_ok-insert.field-0) place c.loop-e.repeat = elim c.if-not-branch.branch [
-      | then-not-branch w ↦ w.repeat-is ∙ (w.sooner-repeat.ensures ∙ ap (λ p. soonest c.loop-e.repeat (Some p)) w.place.ensures) ∙ soonest_place c.loop-e.repeat place ∙ sym (ap (λ b. with_place (not b) place c.loop-e.repeat) w.if-not-branch.true)
+      | then-not-branch w ↦ w.repeat-is ∙ (w.noted-repeat.ensures ∙ ap (λ p. soonest c.loop-e.repeat (Some p)) w.place.ensures) ∙ soonest_place c.loop-e.repeat place ∙ sym (ap (λ b. with_place (not b) place c.loop-e.repeat) w.if-not-branch.true)
       | else-not-branch w ↦ w.repeat-is ∙ sym (ap (λ b. with_place (not b) place c.loop-e.repeat) w.if-not-branch.false)
     ] in
     entries_more f (λ xs. Repeated R xs c.insert.new.self c.if-not-branch.repeat) c.args.entries.now c.loop-e.e-index c.e-item.result c.loop-e-test.true c.e-item.is
