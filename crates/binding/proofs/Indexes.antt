@@ -3,13 +3,15 @@ use Rattle.std.proofs.Common.{◌≡◌, ℕ, zero, suc, ◌+◌, ◌-◌, ◌^�
 use Rattle.std.specs.declared.alloc.Global.{Global}
 use Rattle.std.specs.Option.{option_map}
 use Rattle.std.specs.BTreeSet as bag
+use Rattle.std.specs.Cmp.Lexicographic.{slice_cmp}
+use Rattle.std.specs.Ordering.{nat_cmp}
 use Rattle.std.proofs.lemmas.Bool.{eqb-true, eqb-false}
 use Rattle.model.specs.Tree.{Text}
 use Rattle.naming.specs.Next.{next_name, following, proposal}
 use Rattle.references.specs.Kept.{text_cmp}
 use Rattle.binding.specs.declared.binder.Binder.{Binder}
 use Rattle.binding.specs.Binding.{Binding, find, chosen}
-use Rattle.binding.specs.Sound.{alias_cmp, bindings_in, Bounded, Reached, Comes, Indexed, free_from}
+use Rattle.binding.specs.Sound.{bindings_in, Bounded, Reached, Comes, Indexed, free_from}
 
 -- a vector with these bytes, wherever it would lie
 pub spelled : Vec ℕ Global → (bs : List ℕ) → length bs < 2 ^ 63 → Vec ℕ Global
@@ -19,12 +21,11 @@ pub spelled-bytes : (v : Vec ℕ Global) (bs : List ℕ) (l : length bs < 2 ^ 63
 unfolding spelled
 spelled-bytes v bs l = refl
 
-module _ (s : Binder) (x : Indexed s) (q : Bor (List ℕ)) (v : Vec ℕ Global) (e : vec_items v ≡ q.now) where
-  pub bound_as_name : (r : Bool) → r ≡ bag.contains text_cmp s.names q → r ≡ true → true ≡ is_some (find (bindings_in s) q.now)
-  bound_as_name r h t = sym (ap (λ c. c || bag.contains alias_cmp s.aliases v) (sym h ∙ t)) ∙ x.taken q v e
-
-  pub bound_as_alias : (r c : Bool) → r ≡ bag.contains text_cmp s.names q → r ≡ false → c ≡ bag.contains alias_cmp s.aliases v → c ≡ is_some (find (bindings_in s) q.now)
-  bound_as_alias r c h t d = d ∙ sym (ap (λ c. c || bag.contains alias_cmp s.aliases v) (sym h ∙ t)) ∙ x.taken q v e
+-- the two sets tell together whether a name is bound, in whatever order they are asked
+pub bound_either : (s : Binder) (q : Bor (List ℕ)) → Indexed s → length q.now < 2 ^ 63 → (bag.contains text_cmp s.names q || bag.contains_by (λ k. slice_cmp nat_cmp q.now (vec_items k)) s.aliases) ≡ is_some (find (bindings_in s) q.now)
+bound_either s q x l =
+    let e = spelled-bytes s.pool q.now l in
+    ap (λ bs. bag.contains text_cmp s.names q || bag.contains_by (λ k. slice_cmp nat_cmp bs (vec_items k)) s.aliases) (sym e) ∙ x.taken q (spelled s.pool q.now l) e
 
 -- ---- the search for a free name
 

@@ -1,5 +1,5 @@
 -- What the library decodes of a text is what the pairs of digits say.
-use Rattle.std.proofs.Common.{◌≡◌, ℕ, ◌+◌, ◌*◌, ◌%◌, ◌&&◌, Bool, true, false, true≢false, is_some, inl, inr, List, [], ◌∷◌, length, Some, None, Ok, Err, Option, Result, sym, refl, ap, ◌∙◌, arith}
+use Rattle.std.proofs.Common.{◌≡◌, ℕ, ◌+◌, ◌*◌, ◌%◌, ◌&&◌, true, false, true≢false, is_some, inl, inr, List, [], ◌∷◌, length, Some, None, Ok, Err, Option, Result, sym, refl, ap, ◌∙◌, arith}
 use Rattle.std.specs.Char.{is_ascii_hexdigit}
 use Rattle.std.specs.List.{list_all}
 use Rattle.std.proofs.lemmas.Bool.{cases_eq}
@@ -78,3 +78,11 @@ decoded_same text =
       | inl odd ↦ ap read_or_none (decode_of-odd text odd) ∙ sym (odd_none text odd)
       | inr even ↦ ap read_or_none (decode_of-even text (omega arith)) ∙ pairs_same 0 text
     ]
+
+-- what has the bytes that the library decoded has those of the pairs
+pub kept_same : (text bytes : List ℕ) → decode_of text ≡ Ok bytes → (kept : List ℕ) → kept ≡ bytes → Some kept ≡ hex_bytes text
+kept_same text bytes decoded kept same = ap Some same ∙ sym (ap read_or_none decoded) ∙ decoded_same text
+
+-- and then the text is a row of pairs of digits
+pub decoded_some : (text bytes : List ℕ) → decode_of text ≡ Ok bytes → is_some (hex_bytes text) ≡ true
+decoded_some text bytes decoded = ap is_some (sym (decoded_same text) ∙ ap read_or_none decoded)

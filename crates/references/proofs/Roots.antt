@@ -38,8 +38,12 @@ found_end : (found : Bool) (d n : ℕ) → ltb d n ≡ found → d ≤ n → unw
 found_end true d n e l = refl
 found_end false d n e l = let past = ltb-false d n e in omega (arith, l, past)
 
+-- no dot stands past the end
+pub dot-within : (name : List ℕ) → dot_at name ≤ length name
+dot-within name = prefix_len-le-length (λ b. not (eqb b 46)) name
+
 -- where the search for a dot ends
 pub search_end : (name : List ℕ) (r : Option ℕ) (end : ℕ) → r ≡ cond (ltb (dot_at name) (length name)) (Some (dot_at name)) None → end ≡ unwrap_or r (length name) → end ≡ dot_at name
 search_end name r end found is =
     is ∙ ap (λ o. unwrap_or o (length name)) found
-    ∙ found_end (ltb (dot_at name) (length name)) (dot_at name) (length name) refl (prefix_len-le-length (λ b. not (eqb b 46)) name)
+    ∙ found_end (ltb (dot_at name) (length name)) (dot_at name) (length name) refl (dot-within name)

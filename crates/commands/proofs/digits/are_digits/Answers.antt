@@ -1,0 +1,11 @@
+use Rattle.std.proofs.Common.{arith, rules, tests}
+use Rattle.std.specs.Char.{is_ascii_hexdigit}
+use Rattle.std.proofs.lemmas.Bool.Decides.{nat_tests}
+use Rattle.std.proofs.lemmas.Iterator.{YieldsList-from_slice}
+use Rattle.std.proofs.lemmas.Iterator.Search.{all_from_yields_List}
+use Rattle.commands.proofs.digits.are_digits.Goals as goal
+
+pub returns : goal.returns
+returns c =
+    let all = all_from_yields_List is_ascii_hexdigit _ _ _ c.all.ensures.ran (YieldsList-from_slice c.args.text.now cc) (λ x b q k. search (rules, tests)) in
+    grind (arith, nat_tests, all)
