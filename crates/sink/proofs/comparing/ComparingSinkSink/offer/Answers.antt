@@ -1,6 +1,7 @@
-use Rattle.std.proofs.Common.{◌∷◌, [], drop, arith, length-take, take, ℕ}
+use Rattle.std.proofs.Common.{◌≡◌, ◌+◌, ◌∷◌, [], drop, arith, length, length-take, subst, take, ℕ}
 use Rattle.std.proofs.lemmas.List.{take_rest}
-use Rattle.sink.specs.Texts.{Matching}
+use Rattle.sink.specs.Sinks.{Taking}
+use Rattle.sink.specs.Texts.{Matching, Whole, lines_in}
 use Rattle.sink.proofs.Lines.{lines-few}
 use Rattle.sink.proofs.Offers.{match_within, match_taken, match_whole, match_counted}
 use Rattle.sink.proofs.comparing.ComparingSinkSink.offer.Goals as goal
@@ -23,11 +24,15 @@ invariant_of-self c =
     let at = c.args.self.now.at in
     let w = c.args.self.now.whole in
     record {
-      within = match_within text line at m;
-      whole = match_whole text line at m w;
-      counted = match_counted text line at m w c.args.self.now.lines c.args.self.now.counted;
+      within = omega (arith, match_within text line at m);
+      whole = subst (λ k. Whole (take k text)) (omega arith) (match_whole text line at m w);
+      counted = subst (λ k. c.args.self.now.lines + 1 ≡ length (lines_in (take k text))) (omega arith) (match_counted text line at m w c.args.self.now.lines c.args.self.now.counted);
     }
 
 pub returns-clause-answer : goal.returns-clause-answer
 returns-clause-answer c =
-    match_taken c.args.self.now.expected.now c.args.line.now c.args.self.now.at (matching (goal.at.returns-clause-answer c).Else-not-begins_line) c.args.self.now.whole
+    let text = c.args.self.now.expected.now in
+    let line = c.args.line.now in
+    let at = c.args.self.now.at in
+    subst (λ k. Taking (lines_in (take at text)) (Matching (drop at text)) (line ∷ []) (lines_in (take k text)) (Matching (drop k text))) (omega arith)
+    (match_taken text line at (matching (goal.at.returns-clause-answer c).Else-not-begins_line) c.args.self.now.whole)
